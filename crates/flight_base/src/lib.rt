@@ -11,10 +11,15 @@
 //! gave or holds is stated nowhere.
 #![tactic(auto)]
 
+mod mem_sink;
+mod mem_source;
 mod outside;
 mod reading;
+mod schedule;
 mod writing;
 
+pub use mem_sink::MemSink;
+pub use mem_source::MemSource;
 pub use outside::{Failed, Sink, Source, Unwritten};
 pub use reading::{ReadAll, read_all};
 pub use writing::write_all;
