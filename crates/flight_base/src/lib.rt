@@ -16,10 +16,14 @@ mod mem_source;
 mod outside;
 mod reading;
 mod schedule;
+mod std_sink;
+mod std_source;
 mod writing;
 
 pub use mem_sink::MemSink;
 pub use mem_source::MemSource;
 pub use outside::{Failed, Sink, Source, Unwritten};
 pub use reading::{ReadAll, read_all};
+pub use std_sink::StdSink;
+pub use std_source::StdSource;
 pub use writing::write_all;
