@@ -1,10 +1,6 @@
 -- Counts that only rise.
-use Rattle.std.proofs.Common.{ℕ, ◌+◌, ◌≤◌, ◌≡◌, arith}
-use Rattle.flight_base.specs.Outside.{raised, Rose}
-
--- counting twice is counting the sum
-pub raised-raised : (count m n : ℕ) → raised (raised count m) n ≡ raised count (m + n)
-raised-raised count m n = omega arith
+use Rattle.std.proofs.Common.{ℕ, ◌≤◌, arith}
+use Rattle.flight_base.specs.Outside.{Rose}
 
 -- what rose from a later count rose from an earlier one
 pub Rose-from_earlier : (a b c : ℕ) → a ≤ b → Rose b c → Rose a c

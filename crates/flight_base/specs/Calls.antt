@@ -8,6 +8,10 @@ pub record Calls : Type 0 where
   pub made : ℕ
   pub failed : ℕ
 
+-- no call was made
+abbrev pub unmade : List ℕ → Calls
+unmade fails = record { fails = fails; made = 0; failed = 0 }
+
 -- the next call is one that fails
 abbrev pub FailsNext : Calls → Type 0
 FailsNext calls = Contains calls.fails calls.made

@@ -20,7 +20,8 @@ abbrev pub FailsOnlyIfRose : ℕ → ℕ → Result ℕ Unwritten → Type 0
 FailsOnlyIfRose before now (Err Unwritten.Failed) = Rose before now
 FailsOnlyIfRose before now r = Unit {0}
 
--- the bytes that came are the first of those that were left; a source tells its bytes before and after, or never
+-- the bytes that came are the first of those that were left;
+-- a source tells its bytes before and after, or never
 abbrev pub Takes : Option (List ℕ) → Option (List ℕ) → List ℕ → Type 0
 Takes None None came = Unit {0}
 Takes None (Some rest) came = ⊥

@@ -1,5 +1,5 @@
 ghost use Rattle.std.specs.Prelude.{true, false, ◌≡◌, ◌<◌, ◌≤◌, ◌↔◌, min, length, take, Some, [], IsErr, IfOk, OnOk, OnErr};
-ghost use Rattle.flight_base.specs.Calls.{FailsNext, after_write, after_failed_write, after_unheld_write, after_finish, after_failed_finish};
+ghost use Rattle.flight_base.specs.Calls.{FailsNext, unmade, after_write, after_failed_write, after_unheld_write, after_finish, after_failed_finish};
 
 use crate::outside::{Failed, Sink, Unwritten};
 use crate::schedule::Schedule;
@@ -8,8 +8,9 @@ use std::marker::Model;
 
 /// A sink over memory, which takes few bytes a call and fails at calls that are given to it.
 ///
-/// Contracts see the bytes held, at most how many it takes a call, its calls, and whether it is finished. Writing and
-/// finishing are numbered together, from 0. The number of calls that failed is its count of faults.
+/// Contracts see the bytes held, at most how many it takes a call, its calls, and whether it is
+/// finished. Writing and finishing are numbered together, from 0. The number of calls that failed
+/// is its count of faults.
 #[derive(Drop)]
 pub struct MemSink {
     bytes: Vec<u8>,
@@ -24,18 +25,24 @@ impl Model for MemSink {
 
     ghost Value = { SinkState };
 
-    ghost view = { λ s. record { held = s.bytes.items; most = s.most; calls = s.schedule; finished = s.finished } };
+    ghost view = { λ s. record {
+      held = s.bytes.items;
+      most = s.most;
+      calls = s.schedule;
+      finished = s.finished;
+    } };
 
     ghost invariant = { λ s. 1 ≤ s.most };
 }
 
 impl MemSink {
-    /// An empty sink, not finished, which takes at most `most` bytes a call, at least 1, and fails exactly at the calls
-    /// whose numbers stand in `fails`. It takes memory only as bytes are written.
+    /// An empty sink, not finished, which takes at most `most` bytes a call, at least 1, and fails
+    /// exactly at the calls whose numbers stand in `fails`. It takes memory only as bytes are
+    /// written.
     pub fn new(alloc: Global, most: usize, fails: Vec<u32>) -> MemSink
         requires { 1 ≤ most }
         ensures { result
-            ≡ record { held = []; most = most; calls = record { fails = fails.items; made = 0; failed = 0 }; finished = false } }
+            ≡ record { held = []; most = most; calls = unmade fails.items; finished = false } }
     {
         MemSink {
             bytes: Vec::new(alloc),

@@ -18,8 +18,9 @@ pub enum ReadAll {
 
 /// All bytes that the source has left, where they are at most `limit`.
 ///
-/// `Read` comes only where the count of faults rose, and with at most `limit` bytes met. `TooLong` comes exactly where
-/// more than `limit` bytes were met. After an error a front of the bytes is gone. There are at most `limit + 2` reads.
+/// `Read` comes only where the count of faults rose, and with at most `limit` bytes met. `TooLong`
+/// comes exactly where more than `limit` bytes were met. After an error a front of the bytes is
+/// gone. There are at most `limit + 2` reads.
 pub fn read_all<S: Source>(alloc: Global, source: &mut S, limit: usize) -> Result<Vec<u8>, ReadAll>
     ensures bytes { IfOk result (λ v. IsAll (S.left source.old) v.items) }
     ensures end { OnOk result (IsAll (S.left source.new) []) }
@@ -27,10 +28,13 @@ pub fn read_all<S: Source>(alloc: Global, source: &mut S, limit: usize) -> Resul
     ensures counted { IfOk result (λ v. S.met source.new ≡ raised (S.met source.old) (vec_len v)) }
 
     ensures too_long { result ≡ Err ReadAll.TooLong → IsMore limit (S.left source.old) }
-    ensures too_many { result ≡ Err ReadAll.TooLong → raised (S.met source.old) (limit + 1) ≤ S.met source.new }
+    ensures too_many { result ≡ Err ReadAll.TooLong →
+        raised (S.met source.old) (limit + 1) ≤ S.met source.new }
     ensures read { result ≡ Err ReadAll.Read → Rose (S.faults source.old) (S.faults source.new) }
-    ensures read_within { result ≡ Err ReadAll.Read → S.met source.new ≤ raised (S.met source.old) limit }
-    ensures err { OnErr result (TookFront (S.left source.old) (S.left source.new) (S.met source.old) (S.met source.new)) }
+    ensures read_within { result ≡ Err ReadAll.Read →
+        S.met source.new ≤ raised (S.met source.old) limit }
+    ensures err { OnErr result
+        (TookFront (S.left source.old) (S.left source.new) (S.met source.old) (S.met source.new)) }
 
     ensures later { S.faults source.old ≤ S.faults source.new }
     ensures reads { S.reads source.new ≤ S.reads source.old + limit + 2 }

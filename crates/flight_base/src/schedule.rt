@@ -1,6 +1,6 @@
 ghost use Rattle.std.specs.Prelude.{◌≡◌, ◌↔◌, Contains, IsTrue};
 ghost use Rattle.std.specs.Bool.{OnTrue, OnFalse};
-ghost use Rattle.flight_base.specs.Calls.{FailsNext, passed, failed};
+ghost use Rattle.flight_base.specs.Calls.{FailsNext, unmade, passed, failed};
 
 use std::marker::Model;
 
@@ -23,7 +23,7 @@ impl Model for Schedule {
 impl Schedule {
     /// No call was made so far.
     pub fn new(fails: Vec<u32>) -> Schedule
-        ensures { result ≡ record { fails = fails.items; made = 0; failed = 0 } }
+        ensures { result ≡ unmade fails.items }
     {
         Schedule {
             fails,

@@ -8,11 +8,12 @@ use std::marker::Model;
 
 /// A sink over a writer, such as standard output.
 ///
-/// Every error of the writer is a fault, and so is a write that takes nothing. Finishing flushes the writer. The sink
-/// tells no bytes: this is the edge where the writer is trusted. It takes no memory of its own.
+/// Every error of the writer is a fault, and so is a write that takes nothing. Finishing flushes
+/// the writer. The sink tells no bytes: this is the edge where the writer is trusted. It takes no
+/// memory of its own.
 ///
-/// Contracts see the writer, how often it failed, counted up to 2^64 - 1, and whether it was flushed since the last
-/// write.
+/// Contracts see the writer, how often it failed, counted up to 2^64 - 1, and whether it was
+/// flushed since the last write.
 #[derive(Drop)]
 pub struct StdSink<W> {
     writer: W,
@@ -53,9 +54,13 @@ impl<W: Write> Sink for StdSink<W> {
     fn write(&mut self, piece: &[u8]) -> Result<usize, Unwritten>
         requires { 0 < length piece.now }
         ensures bound { IfOk result (λ n. (0 < n) × (n ≤ length piece.now)) }
-        ensures writer { WriteAppends (W.contents self.old.writer) (W.contents self.new.writer) result piece.now }
-        ensures ok { OnOk result ((self.new.failed ≡ self.old.failed) × (self.new.finished ≡ false)) }
-        ensures err { OnErr result ((self.new.failed ≡ raised self.old.failed 1) × (self.new.finished ≡ self.old.finished)) }
+        ensures writer { WriteAppends (W.contents self.old.writer) (W.contents self.new.writer)
+            result piece.now }
+        ensures unfinished { OnOk result (self.new.finished ≡ false) }
+        ensures faultless { OnOk result (self.new.failed ≡ self.old.failed) }
+
+        ensures kept { OnErr result (self.new.finished ≡ self.old.finished) }
+        ensures failed { OnErr result (self.new.failed ≡ raised self.old.failed 1) }
         ensures no_memory { result ≢ Err Unwritten.Memory }
     {
         match self.writer.write(piece) {
@@ -72,8 +77,11 @@ impl<W: Write> Sink for StdSink<W> {
 
     fn finish(&mut self) -> Result<(), Failed>
         ensures writer { Keeps (W.contents self.old.writer) (W.contents self.new.writer) }
-        ensures ok { OnOk result ((self.new.failed ≡ self.old.failed) × (self.new.finished ≡ true)) }
-        ensures err { OnErr result ((self.new.failed ≡ raised self.old.failed 1) × (self.new.finished ≡ false)) }
+        ensures ok { OnOk result (self.new.finished ≡ true) }
+        ensures faultless { OnOk result (self.new.failed ≡ self.old.failed) }
+
+        ensures err { OnErr result (self.new.finished ≡ false) }
+        ensures failed { OnErr result (self.new.failed ≡ raised self.old.failed 1) }
     {
         match self.writer.flush() {
             Ok(()) => {

@@ -1,4 +1,4 @@
-ghost use Rattle.std.specs.Prelude.{◌≡◌, ◌<◌, ◌≤◌, length, None, IfOk, OnErr};
+ghost use Rattle.std.specs.Prelude.{◌≡◌, ◌<◌, ◌≤◌, length, None, IfOk, OnOk, OnErr};
 ghost use Rattle.std.specs.Io.KnownBytes.{ReadConsumes};
 ghost use Rattle.flight_base.specs.Outside.{raised};
 
@@ -8,10 +8,11 @@ use std::marker::Model;
 
 /// A source over a reader, such as standard input.
 ///
-/// Every error of the reader is a fault, an interrupted read too. What comes is what the reader gives, and the source
-/// tells no bytes: this is the edge where the reader is trusted.
+/// Every error of the reader is a fault, an interrupted read too. What comes is what the reader
+/// gives, and the source tells no bytes: this is the edge where the reader is trusted.
 ///
-/// Contracts see the reader, how many bytes it gave and how often it failed, both counted up to 2^64 - 1.
+/// Contracts see the reader, how many bytes it gave and how often it failed, both counted up to
+/// 2^64 - 1.
 #[derive(Drop)]
 pub struct StdSource<R> {
     reader: R,
@@ -50,9 +51,13 @@ impl<R: Read> Source for StdSource<R> {
     fn read(&mut self, buf: &mut [u8]) -> Result<usize, Failed>
         requires { 0 < length buf.old }
         ensures bound { IfOk result (λ n. n ≤ length buf.new) }
-        ensures reader { ReadConsumes (R.remaining self.old.reader) (R.remaining self.new.reader) result buf.new }
-        ensures counted { IfOk result (λ n. (self.new.given ≡ raised self.old.given n) × (self.new.failed ≡ self.old.failed)) }
-        ensures err { OnErr result ((self.new.given ≡ self.old.given) × (self.new.failed ≡ raised self.old.failed 1)) }
+        ensures reader { ReadConsumes (R.remaining self.old.reader) (R.remaining self.new.reader)
+            result buf.new }
+        ensures given { IfOk result (λ n. self.new.given ≡ raised self.old.given n) }
+        ensures faultless { OnOk result (self.new.failed ≡ self.old.failed) }
+
+        ensures none { OnErr result (self.new.given ≡ self.old.given) }
+        ensures failed { OnErr result (self.new.failed ≡ raised self.old.failed 1) }
     {
         match self.reader.read(buf) {
             Ok(count) => {

@@ -5,9 +5,9 @@ use crate::outside::{Sink, Unwritten};
 
 /// Writes all bytes.
 ///
-/// They are appended to those held. `Failed` comes only where the count of faults rose, and `Memory` only from a sink
-/// that takes memory; after either, a front of the bytes went out, and not all of them. With no bytes the sink is not
-/// touched. Nothing is finished here.
+/// They are appended to those held. `Failed` comes only where the count of faults rose, and
+/// `Memory` only from a sink that takes memory; after either, a front of the bytes went out, and
+/// not all of them. With no bytes the sink is not touched. Nothing is finished here.
 pub fn write_all<K: Sink>(sink: &mut K, bytes: &[u8]) -> Result<(), Unwritten>
     ensures ok { OnOk result (K.held sink.new ≡ appended (K.held sink.old) bytes.now) }
     ensures unfinished { OnOk result (0 < length bytes.now → K.finished sink.new ≡ false) }
