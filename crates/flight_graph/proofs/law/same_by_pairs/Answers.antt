@@ -1,0 +1,5 @@
+use Rattle.flight_graph.proofs.Drawn.{draw_one_canon}
+use Rattle.flight_graph.proofs.law.same_by_pairs.Goals as goal
+
+pub returns : goal.returns
+returns c = draw_one_canon

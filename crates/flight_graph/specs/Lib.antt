@@ -1,0 +1,3 @@
+pub mod Canon
+pub mod Text
+pub mod Walk

@@ -1,0 +1,74 @@
+ghost use Rattle.std.specs.Prelude.{◌≡◌, [], ◌∷◌, ◌++◌, ◌/◌, ◌%◌, ◌<◌, codes, OnOk, MatchOption, All, length, take, slice_index, string_bytes, true, false};
+ghost use Rattle.std.specs.Char.{digit_char};
+ghost use Rattle.flight_graph.specs.Text.{escaped, is_escaped, string_text};
+
+use flight_value::Memory;
+
+/// Appends a text as a JSON string: in quotation marks, with a backslash before `"` and `\`, with `\b`, `\f`,
+/// `\n`, `\r` and `\t`, and with other bytes below 32 as `\u00` and two lower-case hexadecimal digits. All else
+/// stands as it is. Where memory is wanting, a part may be appended.
+pub fn write_string(out: &mut String, text: &str) -> Result<(), Memory>
+    ensures { OnOk result (string_bytes out.new ≡ string_bytes out.old ++ string_text text.now) }
+{
+    out.push_str("\"")?;
+    let mut rest = text;
+    while let Some(at) = first_escaped(rest.as_bytes()) {
+        out.push_str(&rest[..at])?;
+        write_escaped(out, rest.as_bytes()[at])?;
+        rest = &rest[at + 1..];
+    }
+    out.push_str(rest)?;
+    out.push_str("\"")?;
+    Ok(())
+}
+
+/// Where the first byte stands that may not stand as it is.
+fn first_escaped(bytes: &[u8]) -> Option<usize>
+    ensures { MatchOption result (All (λ b. is_escaped b ≡ false) bytes.now) (λ at. (at < length bytes.now) × (is_escaped (slice_index bytes.now at) ≡ true) × All (λ b. is_escaped b ≡ false) (take at bytes.now)) }
+{
+    bytes.iter().position(|byte| is_escaped(*byte))
+}
+
+fn is_escaped(byte: u8) -> bool
+    ensures { result ≡ is_escaped byte }
+{
+    byte < 32 || byte == b'"' || byte == b'\\'
+}
+
+/// Appends a byte of ASCII as it stands within a JSON string.
+fn write_escaped(out: &mut String, byte: u8) -> Result<(), Memory>
+    requires { byte < 128 }
+    ensures { OnOk result (string_bytes out.new ≡ string_bytes out.old ++ escaped byte) }
+{
+    match byte {
+        b'"' => out.push_str("\\\"")?,
+        b'\\' => out.push_str("\\\\")?,
+        8 => out.push_str("\\b")?,
+        12 => out.push_str("\\f")?,
+        b'\n' => out.push_str("\\n")?,
+        b'\r' => out.push_str("\\r")?,
+        b'\t' => out.push_str("\\t")?,
+        0..32 => write_control(out, byte)?,
+        _ => out.push(char::from(byte))?,
+    }
+    Ok(())
+}
+
+/// Appends the escape of a control byte by its number.
+fn write_control(out: &mut String, byte: u8) -> Result<(), Memory>
+    requires { byte < 32 }
+    ensures { OnOk result (string_bytes out.new ≡ string_bytes out.old ++ codes "\\u00" ++ digit_char (byte / 16) ∷ digit_char (byte % 16) ∷ []) }
+{
+    out.push_str("\\u00")?;
+    out.push(hex_digit(byte / 16))?;
+    out.push(hex_digit(byte % 16))?;
+    Ok(())
+}
+
+/// The lower-case hexadecimal digit of a number below 16.
+fn hex_digit(n: u8) -> char
+    requires { n < 16 }
+    ensures { result ≡ digit_char n }
+{
+    char::from(if n < 10 { b'0' + n } else { b'a' + (n - 10) })
+}
