@@ -1,0 +1,82 @@
+-- What is due: one payload a row, and what follows for the refusals.
+use Rattle.std.proofs.Common.{◌≡◌, ℕ, ◌+◌, ◌<◌, ◌≤◌, List, [], ◌∷◌, ◌++◌, length, map, slice_index_or, refl, sym, ◌∙◌, ap, subst, arith, true, Option, Some, None, string_bytes, replicate, codes, inl, inr}
+use Rattle.std.specs.Prelude.{String, Result, Ok, Err, IfOk}
+use Rattle.flight_top.specs.declared.due.Due.{Due}
+use Rattle.flight_top.specs.declared.due.Undue.{Undue}
+use Rattle.std.specs.declared.alloc.Global.{Global}
+use Rattle.std.proofs.lemmas.List.{append_cancel_left, append_cancel_right, length-replicate}
+use Rattle.flight_base.specs.Outside.{IsAll, IsMore}
+use Rattle.flight_value.specs.declared.graph.Graph.{Graph}
+use Rattle.flight_top.specs.declared.told.Status.{Status}
+use Rattle.flight_top.specs.declared.told.Status.TheVariants as status
+use Rattle.flight_top.specs.Model.{MeansGraph}
+use Rattle.flight_top.specs.OneRow.{IsRowOf, IsOneRow}
+use Rattle.flight_top.specs.Told.{is_whole}
+use Rattle.flight_top.specs.Due.{IsDue, usage, view, IsDueView, IsDueViewOf, most_stream, texts}
+
+-- a row has one payload
+pub one_payload : (input p q : List ℕ) → IsRowOf input p → IsRowOf input q → p ≡ q
+one_payload input p q a b =
+    append_cancel_left (codes "0:") p q (append_cancel_right (codes "0:" ++ p) (codes "0:" ++ q) (codes "\n") (sym a.row ∙ b.row))
+
+-- a row whose payload means no graph means none
+pub no_graph : (input p : List ℕ) → IsRowOf input p → ((graph : Graph) → MeansGraph p graph → ⊥) → (graph : Graph) → IsOneRow input graph → ⊥
+no_graph input p a none graph (q, b, m) = let P : List ℕ → Type 0 = λ p. MeansGraph p graph in none graph (subst P (sym (one_payload input p q a b)) m)
+
+row_nonempty : (input p : List ℕ) → IsRowOf input p → input ≡ [] → ⊥
+row_nonempty input p a e = let len = ap length (sym e ∙ a.row) in omega (arith, len)
+
+-- a row whose payload means no graph is refused
+pub not_built : (input p : List ℕ) → length input ≤ most_stream → IsRowOf input p → ((graph : Graph) → MeansGraph p graph → ⊥) → IsDueView input status.Stream (codes "stream: not built\n")
+not_built input p short a none = inr (inr (row_nonempty input p a, short, no_graph input p a none, refl))
+
+-- a refusal is due with its own status and line
+pub due_line : (input : List ℕ) (r : Result Due Undue) (line : List ℕ) → IfOk r (λ due. (due.status ≡ status.Stream) × (due.text ≡ line)) → IsDueView input status.Stream line → IfOk r (λ due. IsDueView input due.status due.text)
+due_line input (Ok due) line h k =
+    let P : Status → Type 0 = λ s. IsDueView input s due.text in
+    let Q : List ℕ → Type 0 = λ t. IsDueView input status.Stream t in
+    subst P (sym h.0) (subst Q (sym h.1) k)
+due_line input (Err e) line h k = h
+
+pub due_line_of : (left : Option (List ℕ)) (r : Result Due Undue) (line : List ℕ) → IfOk r (λ due. (due.status ≡ status.Stream) × (due.text ≡ line)) → IsDueViewOf left status.Stream line → IfOk r (λ due. IsDueViewOf left due.status due.text)
+due_line_of left (Ok due) line h k =
+    let P : Status → Type 0 = λ s. IsDueViewOf left s due.text in
+    let Q : List ℕ → Type 0 = λ t. IsDueViewOf left status.Stream t in
+    subst P (sym h.0) (subst Q (sym h.1) k)
+due_line_of left (Err e) line h k = h
+
+-- the first word
+abbrev pub first_of : List (List ℕ) → List ℕ
+first_of [] = []
+first_of (word ∷ words) = word
+
+-- what is due is printed whole
+pub view-whole : (input : List ℕ) (s : Status) (text : List ℕ) → IsDueView input s text → is_whole s ≡ true
+view-whole input status.Done text h = refl
+view-whole input status.Usage text h = absurd h
+view-whole input status.Bundle text h = absurd h
+view-whole input status.Stream text h = refl
+view-whole input status.Fuel text h = absurd h
+view-whole input status.Stalled text h = absurd h
+view-whole input status.Read text h = absurd h
+view-whole input status.Write text h = absurd h
+view-whole input status.Memory text h = absurd h
+
+pub due-whole : (words : List (List ℕ)) (left : Option (List ℕ)) (s : Status) (text : List ℕ) → IsDue words left s text → is_whole s ≡ true
+due-whole words left s text (usage is_none is_status is_text) = ap is_whole is_status
+due-whole words left s text (view is_view is_due) = view-whole is_due.0 s text is_due.2
+
+-- there are longer lists
+long_list : (n : ℕ) → (input : List ℕ) × (n < length input)
+long_list n = (replicate (n + 1) 0, rw length-replicate (omega arith))
+
+-- more bytes than a stream may have
+pub too_long : (left : Option (List ℕ)) → IsMore most_stream left → IsDueViewOf left status.Stream (codes "stream: too long\n")
+too_long None more = let some = long_list most_stream in (some.0, tt, inl (some.1, refl))
+too_long (Some left) more = (left, refl, inl (more, refl))
+
+-- the text of one word
+pub one_word : (words : List (String Global)) (word : String Global) → 1 ≤ length words → length words < 2 → word ≡ slice_index_or words 0 word → texts words ≡ string_bytes word ∷ []
+one_word [] word least most is_word = absurd (omega arith)
+one_word (a ∷ []) word least most is_word = rw is_word refl
+one_word (a ∷ b ∷ ws) word least most is_word = absurd (omega arith)

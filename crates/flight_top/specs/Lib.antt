@@ -1,0 +1,5 @@
+pub mod Model
+pub mod Fine
+pub mod OneRow
+pub mod Told
+pub mod Due
