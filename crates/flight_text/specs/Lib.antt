@@ -1,0 +1,5 @@
+pub mod Answer
+pub mod Big
+pub mod Hex
+pub mod Mark
+pub mod Reference
