@@ -1,0 +1,12 @@
+pub mod Digits
+pub mod Heads
+pub mod Forms
+pub mod Lines
+pub mod Texts
+pub mod Runs
+pub mod Parts
+pub mod Scan
+pub mod Ways
+pub mod Readings
+pub mod Ends
+pub mod Pieces
