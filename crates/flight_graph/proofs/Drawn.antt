@@ -2,7 +2,7 @@
 use Rattle.std.proofs.Common.{◌≡◌, ℕ, List, [], ◌∷◌, sym, ◌∙◌, ap, subst}
 use Rattle.std.specs.List.{AllZip}
 use Rattle.flight_value.specs.Graph.{IsValid}
-use Rattle.flight_value.specs.Store.{Shape, Target, atom, node_at, TargetsFit, SlotsFit, NodesFit, Fits, Store, Paired, DrawOneGraph, of_graph}
+use Rattle.flight_value.specs.Store.{Shape, Target, atom, node_at, TargetsFit, SlotsFit, Fits, Store, Paired, DrawOneGraph, of_graph}
 use Rattle.flight_value.specs.declared.graph.Graph.{Graph}
 use Rattle.flight_graph.specs.Canon.{canon_of}
 use Rattle.flight_graph.proofs.Pairs.{one_canon, same_by}

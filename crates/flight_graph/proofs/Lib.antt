@@ -2,6 +2,9 @@ pub mod Drawn
 pub mod Escapes
 pub mod Pairs
 pub mod Places
+pub mod Reached
 pub mod Rebuilt
+pub mod Renamed
 pub mod Rows
+pub mod Same
 pub mod Walks

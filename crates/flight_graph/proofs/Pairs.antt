@@ -1,6 +1,6 @@
 -- Graphs that draw one graph have one canon.
 use Rattle.std.proofs.Common.{◌≡◌, ◌≢◌, ℕ, zero, suc, ◌+◌, ◌<◌, ◌≤◌, Bool, true, false, nat_eq, is_some, List, [], ◌∷◌, ◌++◌, length, map, Option, Some, None, unwrap_or, slice_get, refl, sym, ◌∙◌, ap, ap₂, subst, arith, inl, inr, ◌⊎◌, ◌||◌, length-append, zero-add}
-use Rattle.std.specs.Prelude.{if◌then◌else◌, All, option_map}
+use Rattle.std.specs.Prelude.{if◌then◌else◌, option_map}
 use Rattle.std.specs.List.{AllZip, AllByRecursion, IsDistinct, list_any}
 use Rattle.std.specs.Cmp.{nat_eq_equiv}
 use Rattle.std.proofs.lemmas.Map.Steps.{length-le_from_distinct_below}
@@ -10,7 +10,7 @@ use Rattle.std.proofs.lemmas.List.Elements.{recursion_from_All}
 use Rattle.std.proofs.lemmas.Bool.Decides.{nat_tests, eqb_tells}
 use Rattle.std.proofs.lemmas.Option.{none-some}
 use Rattle.flight_value.specs.Graph.{IsValid, IsValidNode, IsValidSlot, slots_of}
-use Rattle.flight_value.specs.Store.{Shape, Target, atom, node_at as at_node, TargetsFit, SlotsFit, NodesFit, Fits, Store, label_of, shape_of, target_of, IsShapeAt, LeadsTo, of_graph}
+use Rattle.flight_value.specs.Store.{Shape, TargetsFit, SlotsFit, Fits, label_of, shape_of, target_of, of_graph}
 use Rattle.flight_value.specs.declared.graph.Slot.{Slot}
 use Rattle.flight_value.specs.declared.graph.Slot.TheVariants as slot
 use Rattle.flight_value.specs.declared.graph.Node.{Node}
@@ -165,15 +165,15 @@ abbrev pub IsBelow : ℕ → Slot → Type 0
 IsBelow count (slot.Atom a) = Unit {0}
 IsBelow count (slot.Node n) = n < count
 
-both_low : (count : ℕ) (s t : List Slot) → AllByRecursion (IsBelow count) s → AllByRecursion (IsBelow count) t → AllByRecursion (IsBelow count) (s ++ t)
+pub both_low : (count : ℕ) (s t : List Slot) → AllByRecursion (IsBelow count) s → AllByRecursion (IsBelow count) t → AllByRecursion (IsBelow count) (s ++ t)
 both_low count [] t p q = q
 both_low count (x ∷ s) t p q = (p.0, both_low count s t p.1 q)
 
-nothing_distinct : IsDistinct nat_eq []
+pub nothing_distinct : IsDistinct nat_eq []
 unfolding IsDistinct
 nothing_distinct = tt
 
-fresh_any : (i m : ℕ) (v : List ℕ) → place_from i m v ≡ None → list_any (nat_eq m) v ≡ false
+pub fresh_any : (i m : ℕ) (v : List ℕ) → place_from i m v ≡ None → list_any (nat_eq m) v ≡ false
 fresh_any i m [] h = refl
 fresh_any i m (x ∷ v) h =
     elim (eqb_tells x m) [
@@ -185,14 +185,14 @@ fresh_any i m (x ∷ v) h =
           rw test (fresh_any (i + 1) m v later)
     ]
 
-abbrev Below : ℕ → List ℕ → Type 0
+abbrev pub Below : ℕ → List ℕ → Type 0
 Below count v = (q : ℕ) → list_any (nat_eq q) v ≡ true → q < count
 
 or_true : (a b : Bool) → (a || b) ≡ true → (a ≡ true) ⊎ (b ≡ true)
 or_true true b h = inl refl
 or_true false b h = inr h
 
-below_push : (count m : ℕ) (v : List ℕ) → Below count v → m < count → Below count (v ++ m ∷ [])
+pub below_push : (count m : ℕ) (v : List ℕ) → Below count v → m < count → Below count (v ++ m ∷ [])
 below_push count m v low lt q h =
     elim (or_true (list_any (nat_eq q) v) (list_any (nat_eq q) (m ∷ [])) (rw list_any-append at h)) [
       | inl a ↦ low q a

@@ -3,7 +3,7 @@ use Rattle.std.proofs.Common.{◌≡◌, ℕ, List, [], ◌∷◌, ◌++◌, map
 use Rattle.std.proofs.lemmas.List.{map-append}
 use Rattle.std.specs.List.{flat_map}
 use Rattle.flight_value.specs.Graph.{slots_of, end_slots}
-use Rattle.flight_value.specs.Store.{FlowState, flowing, closed, broken, Label, array, object, map_of, set_of, element, promise, stream, action, label_of, state_of}
+use Rattle.flight_value.specs.Store.{flowing, closed, broken, Label, array, object, map_of, set_of, element, promise, stream, action, label_of, state_of}
 use Rattle.flight_value.specs.declared.graph.Atom.TheVariants as atom
 use Rattle.flight_value.specs.declared.graph.Slot.{Slot}
 use Rattle.flight_value.specs.declared.graph.Slot.TheVariants as slot

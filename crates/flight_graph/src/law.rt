@@ -4,8 +4,14 @@ ghost use Rattle.flight_value.specs.Store.{DrawOneGraph, of_graph};
 ghost use Rattle.flight_value.specs.declared.graph.Graph.{Graph};
 ghost use Rattle.flight_graph.specs.Canon.{canon_of};
 
-/// The law of pairs, which is a fact alone and does nothing: two valid graphs have one canon where some
-/// list of pairs of their nodes fits.
+/// The law of pairs, which is a fact alone and does nothing: two valid graphs have one canon exactly where
+/// some list of pairs of their nodes fits.
 pub fn same_by_pairs()
-    ensures { (g h : Graph) → IsValid g → IsValid h → DrawOneGraph (of_graph g) (of_graph h) → canon_of g ≡ canon_of h }
+    ensures same { (g h : Graph) → IsValid g → IsValid h → DrawOneGraph (of_graph g) (of_graph h) → canon_of g ≡ canon_of h }
+    ensures drawn { (g h : Graph) → IsValid g → IsValid h → canon_of g ≡ canon_of h → DrawOneGraph (of_graph g) (of_graph h) }
+{}
+
+/// A fact alone: the canon of a valid graph is valid.
+pub fn canon_is_valid()
+    ensures { (g : Graph) → IsValid g → IsValid (canon_of g) }
 {}

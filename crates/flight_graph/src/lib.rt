@@ -1,13 +1,33 @@
-//! Canonical graphs: which nodes the root leads to, in the order of a first visit, and their text.
+//! Canonical graphs: a graph's nodes in the order of a first visit, and the text of that.
+//!
+//! Nodes of a graph are numbered, and the numbers mean nothing. The canon has the nodes that the root leads
+//! to, in the order in which a depth-first walk first visits them, under new numbers (`specs/Canon.antt`).
+//! So two graphs say the same, sharing and cycles included, exactly where their canons are equal. They are
+//! exactly where some list of pairs of their nodes fits, which follows no walk ([`same_by_pairs`]).
+//!
+//! [`canon_text`] prints the canon, one line a node (`specs/Text.antt`). The format is this project's own:
+//!
+//! ```text
+//! root #0
+//! #0 array [#1,#1]
+//! #1 object {"self":#1}
+//! ```
+//!
+//! Walking and printing take time and memory in proportion to the nodes, the slots and the text; no machine
+//! stack grows with the graph.
 #![tactic(auto)]
 
 mod escape;
 mod law;
 mod print;
 mod rename;
+#[cfg(test)]
+mod tests;
+#[cfg(test)]
+mod valid;
 mod walk;
 
 pub use escape::write_string;
-pub use law::same_by_pairs;
+pub use law::{canon_is_valid, same_by_pairs};
 pub use print::canon_text;
 pub use rename::canon;

@@ -11,7 +11,8 @@ use std::alloc::Global;
 /// not lead to are left out.
 pub fn canon(alloc: Global, graph: &Graph) -> Result<Graph, Memory>
     requires { IsValid graph.now }
-    ensures { IfOk result (λ c. c ≡ canon_of graph.now) }
+    ensures canon { IfOk result (λ c. c ≡ canon_of graph.now) }
+    ensures valid { IfOk result (λ c. IsValid c) }
 {
     let walk = visit_all(alloc, graph)?;
     let places = walk.places.as_slice();
