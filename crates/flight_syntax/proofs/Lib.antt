@@ -1,0 +1,10 @@
+pub mod Classes
+pub mod Numerals
+pub mod Closing
+pub mod Fronts
+pub mod Numbers
+pub mod Marks
+pub mod Strings
+pub mod Literals
+pub mod Readings
+pub mod Spellings
