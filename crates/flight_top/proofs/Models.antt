@@ -1,6 +1,6 @@
 -- Nodes put where one stands, texts with no dollar in front, elements, and names in order.
 use Rattle.std.proofs.Common.{◌≡◌, ℕ, ◌+◌, ◌<◌, ◌≤◌, List, [], ◌∷◌, ◌++◌, length, map, slice_set, slice_index_or, refl, sym, ◌∙◌, ap, subst, append_assoc, append-nil, length-append, arith, ◌≢◌, ◌==◌, true, false, Bool, string_bytes, string_cmp, All}
-use Rattle.std.specs.Prelude.{Option, Some, String, Result, Ok, Err, IfOk, ◌^◌}
+use Rattle.std.specs.Prelude.{Option, Some, None, MatchOption, IsSome, option_to_list, ◌↔◌, String, Result, Ok, Err, IfOk, ◌^◌}
 use Rattle.std.specs.Map.{keys_of}
 use Rattle.std.proofs.lemmas.Bool.{false≢true}
 use Rattle.flight_value.specs.Graph.{Ascend}
@@ -20,7 +20,7 @@ use Rattle.serde_json.specs.declared.value.Value.{Value}
 use Rattle.flight_value.specs.declared.graph.Node.{Node}
 use Rattle.flight_value.specs.declared.graph.Node.TheVariants as node
 use Rattle.flight_top.specs.Model.{text_of, is_mark, is_key, is_marked, has_element_form, is_plain, is_array_plain, slot_at, nodes_at, array_node, array_nodes, member_props}
-use Rattle.flight_top.specs.Fine.{three}
+use Rattle.flight_top.specs.Fine.{three, behind}
 
 -- a node that is put where one stood, in front of what came behind it
 pub filled : (before after more : List Node) (n : ℕ) (first node : Node) → length before ≡ n → after ≡ (before ++ first ∷ []) ++ more → slice_set after n node ≡ before ++ node ∷ more
@@ -41,20 +41,46 @@ not_dollar (b ∷ c ∷ bs) h =
 
 -- ---- the items of an element
 
--- a list of four, three of which are known
-pub four : (xs : List Value) (t k p : Value) → 4 ≤ length xs → length xs < 5 → t ≡ slice_index_or xs 1 t → k ≡ slice_index_or xs 2 k → p ≡ slice_index_or xs 3 p
-    → (m : Data) × (items_view xs ≡ item m (three (view t) (view k) (view p)))
-four [] t k p least most is_t is_k is_p = absurd (omega arith)
-four (a ∷ []) t k p least most is_t is_k is_p = absurd (omega arith)
-four (a ∷ b ∷ []) t k p least most is_t is_k is_p = absurd (omega arith)
-four (a ∷ b ∷ c ∷ []) t k p least most is_t is_k is_p = absurd (omega arith)
-four (a ∷ b ∷ c ∷ d ∷ []) t k p least most is_t is_k is_p = (view a, rw (is_t, is_k, is_p) refl)
-four (a ∷ b ∷ c ∷ d ∷ e ∷ xs) t k p least most is_t is_k is_p = absurd (omega arith)
+-- in a list of four the form is that of its key
+pub form_key : (xs : List Value) (k : Value) → 4 ≤ length xs → length xs < 5 → k ≡ slice_index_or xs 2 k → has_element_form (behind (items_view xs)) ≡ is_key (view k)
+form_key [] k least most is_k = absurd (omega arith)
+form_key (a ∷ []) k least most is_k = absurd (omega arith)
+form_key (a ∷ b ∷ []) k least most is_k = absurd (omega arith)
+form_key (a ∷ b ∷ c ∷ []) k least most is_k = absurd (omega arith)
+form_key (a ∷ b ∷ c ∷ d ∷ []) k least most is_k = rw is_k refl
+form_key (a ∷ b ∷ c ∷ d ∷ e ∷ xs) k least most is_k = absurd (omega arith)
 
--- what stands behind the first item
-abbrev behind : Items → Items
-behind no_items = no_items
-behind (item m ds) = ds
+-- what has the form has four items
+pub form_length : (xs : List Value) → has_element_form (behind (items_view xs)) ≡ true → length xs ≡ 4
+form_length [] form = absurd (false≢true form)
+form_length (a ∷ []) form = absurd (false≢true form)
+form_length (a ∷ b ∷ []) form = absurd (false≢true form)
+form_length (a ∷ b ∷ c ∷ []) form = absurd (false≢true form)
+form_length (a ∷ b ∷ c ∷ d ∷ []) form = refl
+form_length (a ∷ b ∷ c ∷ d ∷ e ∷ xs) form = absurd (false≢true form)
+
+-- the parts behind the mark, taken one after another
+pub parts : (xs first second third rest : List Value) (n n' n'' : ℕ) (mark : Option Value) (t k p : Value) → has_element_form (behind (items_view xs)) ≡ true
+    → MatchOption mark ((n ≡ 0) × (n' ≡ 0)) (λ m. (xs ≡ m ∷ first) × (n' + 1 ≡ n)) → n'' + 1 ≡ n' → first ≡ t ∷ second → second ≡ k ∷ third → third ≡ p ∷ rest
+    → (m : Data) × (items_view xs ≡ item m (three (view t) (view k) (view p)))
+parts xs first second third rest n n' n'' None t k p form step more is_t is_k is_p = let none = step.1 in absurd (omega arith)
+parts xs first second third [] n n' n'' (Some m) t k p form step more is_t is_k is_p = (view m, rw (step.0, is_t, is_k, is_p) refl)
+parts xs first second third (y ∷ ys) n n' n'' (Some m) t k p form step more is_t is_k is_p =
+    absurd (false≢true (rw (step.0, is_t, is_k, is_p) at form))
+
+-- one is taken where any is left
+left_over : (n m : ℕ) (o : Option Value) → m + length (option_to_list o) ≡ n → n ≤ m + 1
+left_over n m None e = omega arith
+left_over n m (Some x) e = omega arith
+
+-- of four each is there
+pub all_there : (n first second third fourth : ℕ) (m t k p : Option Value) → n ≡ 4 → first + length (option_to_list m) ≡ n → second + length (option_to_list t) ≡ first → third + length (option_to_list k) ≡ second
+    → (IsSome t ↔ (0 < first)) → (IsSome k ↔ (0 < second)) → (IsSome p ↔ (0 < third)) → IsSome t × IsSome k × IsSome p
+all_there n first second third fourth m t k p four is_first is_second is_third has_t has_k has_p =
+    let a = left_over n first m is_first in
+    let b = left_over first second t is_second in
+    let c = left_over second third k is_third in
+    (has_t.1 (omega arith), has_k.1 (omega arith), has_p.1 (omega arith))
 
 -- no list of another length has the form
 pub short_form : (xs : List Value) → length xs < 4 → has_element_form (behind (items_view xs)) ≡ false

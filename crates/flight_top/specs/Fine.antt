@@ -9,6 +9,11 @@ use Rattle.flight_value.specs.declared.graph.Node.TheVariants as node
 abbrev pub three : Data → Data → Data → Items
 three type key props = item type (item key (item props no_items))
 
+-- what stands behind the first item
+abbrev pub behind : Items → Items
+behind no_items = no_items
+behind (item m ds) = ds
+
 -- an object's names ascend
 abbrev pub HasAscendingNames : Node → Type 0
 HasAscendingNames (node.Object props) = Ascend (map (λ p. p.name) props)

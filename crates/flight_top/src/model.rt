@@ -1,10 +1,10 @@
-ghost use Rattle.std.specs.Prelude.{◌≡◌, ◌+◌, ◌++◌, ◌∷◌, [], ◌↔◌, ◌<◌, None, Some, true, false, length, IfOk, IfErr, OnOk, OnErr, IsTrue, option_map, slice_set, All, ℕ, map, ◌^◌};
+ghost use Rattle.std.specs.Prelude.{◌≡◌, ◌+◌, ◌++◌, ◌∷◌, [], ◌↔◌, ◌<◌, None, Some, true, false, length, IfOk, IfErr, OnOk, OnErr, IsTrue, option_map, slice_set, string_bytes, All, ℕ, map, ◌^◌};
 ghost use Rattle.serde_json.specs.Read.{read};
 ghost use Rattle.serde_json.specs.View.{view, items_view, members_view, number_view};
 ghost use Rattle.flight_value.specs.Graph.{IsValid, Ascend};
 ghost use Rattle.flight_value.specs.declared.graph.Graph.{Graph};
-ghost use Rattle.flight_top.specs.Model.{whole_of, text_of, is_marked, is_key, is_plain, is_array_plain, are_plain, are_members_plain, slot_at, nodes_at, array_node, array_nodes, item_nodes, item_slots, member_nodes, member_props, MeansGraph};
-ghost use Rattle.flight_top.specs.Fine.{IsFine};
+ghost use Rattle.flight_top.specs.Model.{whole_of, text_of, is_marked, is_key, has_element_form, is_plain, is_array_plain, are_plain, are_members_plain, slot_at, nodes_at, array_node, array_nodes, item_nodes, item_slots, member_nodes, member_props, MeansGraph};
+ghost use Rattle.flight_top.specs.Fine.{IsFine, behind};
 
 use flight_value::{Atom, Graph, List, Memory, Node, Prop, Slot, Text};
 use serde_json::{Map, Number, Value};
@@ -94,6 +94,16 @@ fn may_be_key(value: &Value) -> bool
     matches!(value, Value::Null | Value::String(_))
 }
 
+/// Whether items behind a mark are a type, a key that is null or a text, and props.
+fn is_element(items: &[Value]) -> bool
+    ensures { IsTrue result ↔ (has_element_form (behind (items_view items.now)) ≡ true) }
+{
+    match items {
+        [_, _, key, _] => may_be_key(key),
+        _ => false,
+    }
+}
+
 /// The next node's number. More nodes than numbers are answered as want of memory.
 fn next_number(out: &[Node]) -> Result<u32, Refused>
     ensures ok { IfOk result (λ n. n ≡ length out.now) }
@@ -143,27 +153,38 @@ fn text(alloc: Global, text: &str) -> Result<Text, Refused>
     Ok(Text::new(alloc, text)?)
 }
 
+/// The text that a string stands for, which is the string itself where it does not begin with a dollar.
+fn text_in(alloc: Global, string: String) -> Result<Text, Refused>
+    ensures ok { IfOk result (λ t. text_of (string_bytes string) ≡ Some t) }
+    ensures refused { result ≡ Err Refused.NotPlain → text_of (string_bytes string) ≡ None }
+{
+    if !string.as_str().starts_with('$') {
+        return Ok(Text::from_string(string));
+    }
+    match plain(string.as_str()) {
+        Some(t) => text(alloc, t),
+        None => Err(Refused::NotPlain),
+    }
+}
+
 /// The slot of a value, behind whose nodes those in it are put.
 #[cycle(walk)]
-fn walk(alloc: Global, value: &Value, out: &mut Vec<Node>) -> Result<Slot, Refused>
+fn walk(alloc: Global, value: Value, out: &mut Vec<Node>) -> Result<Slot, Refused>
     requires { All IsFine out.old.items }
-    ensures plain { OnOk result (is_plain (view value.now) ≡ true) }
-    ensures slot { IfOk result (λ s. s ≡ slot_at (length out.old.items) (view value.now)) }
-    ensures nodes { OnOk result (out.new.items ≡ out.old.items ++ nodes_at (length out.old.items) (view value.now)) }
+    ensures plain { OnOk result (is_plain (view value) ≡ true) }
+    ensures slot { IfOk result (λ s. s ≡ slot_at (length out.old.items) (view value)) }
+    ensures nodes { OnOk result (out.new.items ≡ out.old.items ++ nodes_at (length out.old.items) (view value)) }
     ensures fine { OnOk result (All IsFine out.new.items) }
-    ensures refused { result ≡ Err Refused.NotPlain → is_plain (view value.now) ≡ false }
+    ensures refused { result ≡ Err Refused.NotPlain → is_plain (view value) ≡ false }
 {
     match value {
         Value::Null => Ok(Slot::Atom(Atom::Null)),
-        Value::Bool(b) => Ok(Slot::Atom(Atom::Bool(*b))),
-        Value::Number(number) => match whole(number) {
+        Value::Bool(b) => Ok(Slot::Atom(Atom::Bool(b))),
+        Value::Number(number) => match whole(&number) {
             Some(z) => Ok(Slot::Atom(Atom::Whole(z))),
             None => Err(Refused::NotPlain),
         },
-        Value::String(s) => match plain(s.as_str()) {
-            Some(t) => Ok(Slot::Atom(Atom::Text(text(alloc, t)?))),
-            None => Err(Refused::NotPlain),
-        },
+        Value::String(s) => Ok(Slot::Atom(Atom::Text(text_in(alloc, s)?))),
         Value::Array(items) => {
             let number = next_number(out.as_slice())?;
             out.push(unfinished(alloc))?;
@@ -183,20 +204,25 @@ fn walk(alloc: Global, value: &Value, out: &mut Vec<Node>) -> Result<Slot, Refus
 
 /// The node of an array, behind whose place those in it are put.
 #[cycle(walk)]
-fn walk_array(alloc: Global, items: &Vec<Value>, out: &mut Vec<Node>) -> Result<Node, Refused>
+fn walk_array(alloc: Global, items: Vec<Value>, out: &mut Vec<Node>) -> Result<Node, Refused>
     requires { All IsFine out.old.items }
-    ensures plain { OnOk result (is_array_plain (items_view items.now.items) ≡ true) }
-    ensures node { IfOk result (λ node. node ≡ array_node (length out.old.items) (items_view items.now.items)) }
-    ensures nodes { OnOk result (out.new.items ≡ out.old.items ++ array_nodes (length out.old.items) (items_view items.now.items)) }
+    ensures plain { OnOk result (is_array_plain (items_view items.items) ≡ true) }
+    ensures node { IfOk result (λ node. node ≡ array_node (length out.old.items) (items_view items.items)) }
+    ensures nodes { OnOk result (out.new.items ≡ out.old.items ++ array_nodes (length out.old.items) (items_view items.items)) }
     ensures few { IfOk result IsFine }
     ensures fine { OnOk result (All IsFine out.new.items) }
-    ensures refused { result ≡ Err Refused.NotPlain → is_array_plain (items_view items.now.items) ≡ false }
+    ensures refused { result ≡ Err Refused.NotPlain → is_array_plain (items_view items.items) ≡ false }
 {
-    if !starts_with_mark(items) {
+    if !starts_with_mark(items.as_slice()) {
         return Ok(Node::Array(walk_items(alloc, items, out)?));
     }
-    match items.as_slice() {
-        [_, tag, key, props] if may_be_key(key) => {
+    if !is_element(items.as_slice()) {
+        return Err(Refused::NotPlain);
+    }
+    let mut items = items.into_iter();
+    items.next();
+    match (items.next(), items.next(), items.next()) {
+        (Some(tag), Some(key), Some(props)) => {
             let tag = walk(alloc, tag, out)?;
             let key = walk(alloc, key, out)?;
             let props = walk(alloc, props, out)?;
@@ -208,14 +234,14 @@ fn walk_array(alloc: Global, items: &Vec<Value>, out: &mut Vec<Node>) -> Result<
 
 /// The slots of an array's items.
 #[cycle(walk)]
-fn walk_items(alloc: Global, items: &Vec<Value>, out: &mut Vec<Node>) -> Result<List<Slot>, Refused>
+fn walk_items(alloc: Global, items: Vec<Value>, out: &mut Vec<Node>) -> Result<List<Slot>, Refused>
     requires { All IsFine out.old.items }
-    ensures plain { OnOk result (are_plain (items_view items.now.items) ≡ true) }
-    ensures slots { IfOk result (λ slots. slots ≡ item_slots (length out.old.items) (items_view items.now.items)) }
-    ensures nodes { OnOk result (out.new.items ≡ out.old.items ++ item_nodes (length out.old.items) (items_view items.now.items)) }
+    ensures plain { OnOk result (are_plain (items_view items.items) ≡ true) }
+    ensures slots { IfOk result (λ slots. slots ≡ item_slots (length out.old.items) (items_view items.items)) }
+    ensures nodes { OnOk result (out.new.items ≡ out.old.items ++ item_nodes (length out.old.items) (items_view items.items)) }
     ensures few { IfOk result (λ slots. length slots < 2 ^ 32) }
     ensures fine { OnOk result (All IsFine out.new.items) }
-    ensures refused { result ≡ Err Refused.NotPlain → are_plain (items_view items.now.items) ≡ false }
+    ensures refused { result ≡ Err Refused.NotPlain → are_plain (items_view items.items) ≡ false }
 {
     let mut slots = Vec::with_capacity(alloc, items.len())?;
     for item in items {
@@ -228,21 +254,21 @@ fn walk_items(alloc: Global, items: &Vec<Value>, out: &mut Vec<Node>) -> Result<
 #[cycle(walk)]
 fn walk_members(
     alloc: Global,
-    members: &Map<String, Value>,
+    members: Map<String, Value>,
     out: &mut Vec<Node>,
 ) -> Result<List<Prop>, Refused>
     requires { All IsFine out.old.items }
-    ensures plain { OnOk result (are_members_plain (members_view members.now.entries) ≡ true) }
-    ensures props { IfOk result (λ props. props ≡ member_props (length out.old.items) (members_view members.now.entries)) }
-    ensures nodes { OnOk result (out.new.items ≡ out.old.items ++ member_nodes (length out.old.items) (members_view members.now.entries)) }
+    ensures plain { OnOk result (are_members_plain (members_view members.entries) ≡ true) }
+    ensures props { IfOk result (λ props. props ≡ member_props (length out.old.items) (members_view members.entries)) }
+    ensures nodes { OnOk result (out.new.items ≡ out.old.items ++ member_nodes (length out.old.items) (members_view members.entries)) }
     ensures few { IfOk result (λ props. length props < 2 ^ 32) }
     ensures names { IfOk result (λ props. Ascend (map (λ p. p.name) props)) }
     ensures fine { OnOk result (All IsFine out.new.items) }
-    ensures refused { result ≡ Err Refused.NotPlain → are_members_plain (members_view members.now.entries) ≡ false }
+    ensures refused { result ≡ Err Refused.NotPlain → are_members_plain (members_view members.entries) ≡ false }
 {
     let mut props = Vec::with_capacity(alloc, members.len())?;
-    for (name, member) in members.iter() {
-        let name = text(alloc, name.as_str())?;
+    for (name, member) in members {
+        let name = Text::from_string(name);
         let slot = walk(alloc, member, out)?;
         props.push(Prop { name, slot })?;
     }
@@ -257,7 +283,7 @@ pub fn model_graph(alloc: Global, payload: &str) -> Result<Graph, Refused>
 {
     let value = parsed(alloc, payload)?;
     let mut nodes = Vec::new(alloc);
-    let root = walk(alloc, &value, &mut nodes)?;
+    let root = walk(alloc, value, &mut nodes)?;
     let nodes = few(nodes)?;
     Ok(Graph { root, nodes })
 }
