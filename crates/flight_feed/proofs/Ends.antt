@@ -6,14 +6,10 @@ use Rattle.flight_row.specs.Written.{spelling_of, IsWritable}
 use Rattle.flight_row.proofs.Spelled.{spelling_of-Spells}
 use Rattle.flight_feed.specs.declared.fault.FeedKind.{FeedKind}
 use Rattle.flight_feed.specs.declared.fault.FeedKind.TheVariants.{BadId, BadTag, DevRow, BadLength, RowTooLong, BadText, Cut}
-use Rattle.flight_feed.specs.Parts.{IsPart, in_id}
 use Rattle.flight_feed.specs.Stream.{Splits, Refuses, IsCut, Fails, HasFault, HasOneReading, HasOneEnd, IsReadBack}
-use Rattle.flight_feed.proofs.Heads.{no_digits}
+use Rattle.flight_feed.proofs.Parts.{no_part}
 use Rattle.flight_feed.proofs.Scan.{scan, start}
 use Rattle.flight_feed.proofs.Readings.{has_one_reading, item_whole, one_item, part_tail, bad_tail, IsTail}
-
-pub no_part : IsPart []
-no_part = in_id [] 0 (record { are_digits = no_digits; small = omega arith })
 
 pub splits_whole : (text : List ℕ) (items : List Item) → SpellAll text items → Splits text items []
 splits_whole text items h = record { front = text; spelled = h; whole = sym (append-nil text); is_part = no_part }
@@ -53,9 +49,17 @@ both_fail kind kind' text items others (inr a) (inr b) =
     let same = (has_one_reading text).one_fault kind kind' items others a b in
     (same.1, same.0)
 
+some_end : (text : List ℕ) → ((items : List Item) × (rest : List ℕ) × Splits text items rest) ⊎ ((kind : FeedKind) × (items : List Item) × Refuses kind text items) → ((items : List Item) × SpellAll text items) ⊎ ((number : ℕ) × (kind : FeedKind) × HasFault number kind text)
+some_end text (inl (items, [], s)) = inl (items, rw (s.whole, append-nil) s.spelled)
+some_end text (inl (items, b ∷ bs, s)) =
+    inr (length items + 1, Cut, record { items = items; fails = record { rest = b ∷ bs; some = λ e. cc; splits = s }; is_number = refl })
+some_end text (inr (kind, items, r)) =
+    inr (length items + 1, kind, record { items = items; fails = refused_fails kind text items r; is_number = refl })
+
 pub has_one_end : (text : List ℕ) → HasOneEnd text
 has_one_end text =
     record {
+      some = some_end text (has_one_reading text).some;
       rows = λ items others a b. ((has_one_reading text).rows items others [] [] (splits_whole text items a) (splits_whole text others b)).0;
       not_both = λ number kind items a f. whole_fails kind text items f.items a (fails_cases kind text f.items f.fails);
       one_fault = λ number number' kind kind' f g.

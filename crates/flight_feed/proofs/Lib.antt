@@ -5,6 +5,7 @@ pub mod Lines
 pub mod Texts
 pub mod Runs
 pub mod Parts
+pub mod Grows
 pub mod Scan
 pub mod Ways
 pub mod Readings

@@ -78,7 +78,7 @@ line_more p piece n line pass fits =
       within = fits;
     }
 
-too_long_at : (c : Coming) (h q : List ℕ) → IsBefore c h → MayBegin c q → IsPast q → IsBad RowTooLong (h ++ q)
+pub too_long_at : (c : Coming) (h q : List ℕ) → IsBefore c h → MayBegin c q → IsPast q → IsBad RowTooLong (h ++ q)
 too_long_at (ARow i k) h q is_before may past =
     inr (inl (record { head = h; id = i; kind = k; payload = q; is_head = is_before; is_model = may; is_past = past; spelled = refl }))
 too_long_at AHint h q is_before may past =
@@ -97,7 +97,7 @@ too_long c h p piece n is_before line may pass within past =
     } in
     (x, omega arith, rw append_assoc (too_long_at c h (p ++ take x piece) is_before (may_begin-take c p piece x may) is_past))
 
-has_form : (c : Coming) (h q bytes : List ℕ) → IsBefore c h → MayBegin c q → IsLine q → bytes ≡ h ++ q ++ 10 ∷ [] → HasForm c bytes q
+pub has_form : (c : Coming) (h q bytes : List ℕ) → IsBefore c h → MayBegin c q → IsLine q → bytes ≡ h ++ q ++ 10 ∷ [] → HasForm c bytes q
 has_form (ARow i k) h q bytes is_before may line spelled =
     line_row k bytes i q (record { head = h; is_head = is_before; is_line = line; is_model = may; spelled = spelled })
 has_form AHint h q bytes is_before may line spelled =

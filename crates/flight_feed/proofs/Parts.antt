@@ -1,11 +1,12 @@
 -- What a reader keeps is the beginning of a row.
-use Rattle.std.proofs.Common.{◌≡◌, ℕ, ◌<◌, List, [], ◌∷◌, ◌++◌, sym, subst, append-nil}
+use Rattle.std.proofs.Common.{◌≡◌, ℕ, ◌<◌, List, [], ◌∷◌, ◌++◌, sym, subst, append-nil, arith}
 use Rattle.flight_row.specs.declared.row.RowKind.{RowKind}
 use Rattle.flight_feed.specs.declared.begun.Coming.{Coming}
 use Rattle.flight_feed.specs.declared.begun.Coming.TheVariants.{Row as ARow, Hint as AHint}
 use Rattle.flight_feed.specs.declared.begun.Mode.{Mode}
 use Rattle.flight_feed.specs.declared.begun.Mode.TheVariants as mode
 use Rattle.flight_feed.specs.Parts.{IsPart, in_id, behind_id, behind_colon, in_length, in_text, in_line, in_hint}
+use Rattle.flight_feed.proofs.Heads.{no_digits}
 use Rattle.flight_feed.specs.Begun.{Begins, InComing, IsUnfinished}
 
 without : (h p : List ℕ) → IsPart h → p ≡ [] → IsPart (h ++ p)
@@ -19,3 +20,6 @@ part_of (mode.Length id count value) h p b u = without h p (in_length h id count
 part_of (mode.Text id left) h p b u = in_text h p id left b u
 part_of (mode.Line (ARow id kind)) h p b u = in_line h p id kind b
 part_of (mode.Line AHint) h p b u = in_hint h p b
+
+pub no_part : IsPart []
+no_part = in_id [] 0 (record { are_digits = no_digits; small = omega arith })

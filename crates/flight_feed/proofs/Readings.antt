@@ -16,6 +16,8 @@ use Rattle.flight_feed.specs.Parts.{IsPart, in_id, behind_id, behind_colon, in_l
 use Rattle.flight_feed.specs.Faults.{IsBad, IsPast, NoId, NoHint, NoLength}
 use Rattle.flight_feed.specs.Begun.{IsBefore, IsFit, item_of}
 use Rattle.flight_feed.specs.Stream.{Splits, Refuses, HasOneReading}
+use Rattle.flight_feed.proofs.Parts.{no_part}
+use Rattle.flight_feed.proofs.Grows.{reads}
 use Rattle.flight_feed.proofs.Scan.{Place, at_id, at_tag, at_colon, at_length, at_text, at_line, Step, to, ends, stops, Seen, goes, whole, fails, settle, line_step, tag_step, colon_step, comma_step, step, after, scan, start, scan-nil, scan-cons}
 use Rattle.flight_feed.proofs.Ways.{goes_by, scan_digits, scan_bare, scan_head, scan_tagged, scan_hint_head, Starts, scan_before, starts_row, starts_hint, scan_line, scan_past, scan_number, scan_text_head, scan_some, form_settles, settle-fit, settle-unfit}
 
@@ -181,6 +183,7 @@ bad_tail kind bad more b item x e =
 pub has_one_reading : (text : List ℕ) → HasOneReading text
 has_one_reading text =
     record {
+      some = reads text [] no_part;
       rows = λ items others rest other a b.
           one_reading items others a.front b.front rest other a.spelled b.spelled (sym a.whole ∙ b.whole) (part_tail rest a.is_part) (part_tail other b.is_part);
       not_both = λ kind items others rest a b.

@@ -1,6 +1,6 @@
 -- A stream that comes in pieces: the rows in it, the begun row, and where it has no reading.
 use Rattle.std.specs.declared.alloc.Global.{Global}
-use Rattle.std.specs.Prelude.{Vec, flat_map, ℕ, ◌+◌, ◌<◌, ◌≤◌, ◌≡◌, ◌≢◌, List, [], ◌∷◌, ◌++◌, length}
+use Rattle.std.specs.Prelude.{Vec, flat_map, ℕ, ◌+◌, ◌<◌, ◌≤◌, ◌≡◌, ◌≢◌, ◌⊎◌, List, [], ◌∷◌, ◌++◌, length}
 use Rattle.flight_row.specs.declared.row.Row.{Row}
 use Rattle.flight_row.specs.Rows.{Item, handed, hint, SpellAll}
 use Rattle.flight_row.specs.Written.{spelling_of}
@@ -71,14 +71,16 @@ pub record HasFault (number : ℕ) (kind : FeedKind) (text : List ℕ) : Type 0 
   pub fails : Fails kind text items
   pub is_number : number ≡ length items + 1
 
--- what has come of a text has one reading at most
+-- what has come of a text has one reading: it is items and the beginning of one, or has a fault behind items
 pub record HasOneReading (text : List ℕ) : Type 0 where
+  pub some : ((items : List Item) × (rest : List ℕ) × Splits text items rest) ⊎ ((kind : FeedKind) × (items : List Item) × Refuses kind text items)
   pub rows : (items others : List Item) (rest other : List ℕ) → Splits text items rest → Splits text others other → (items ≡ others) × (rest ≡ other)
   pub not_both : (kind : FeedKind) (items others : List Item) (rest : List ℕ) → Splits text items rest → Refuses kind text others → ⊥
   pub one_fault : (kind kind' : FeedKind) (items others : List Item) → Refuses kind text items → Refuses kind' text others → (kind ≡ kind') × (items ≡ others)
 
--- a text that ends here is rows in one way at most, or has one fault, and not both
+-- a text that ends here has one reading: it is items, or has a fault
 pub record HasOneEnd (text : List ℕ) : Type 0 where
+  pub some : ((items : List Item) × SpellAll text items) ⊎ ((number : ℕ) × (kind : FeedKind) × HasFault number kind text)
   pub rows : (items others : List Item) → SpellAll text items → SpellAll text others → items ≡ others
   pub not_both : (number : ℕ) (kind : FeedKind) (items : List Item) → SpellAll text items → HasFault number kind text → ⊥
   pub one_fault : (number number' : ℕ) (kind kind' : FeedKind) → HasFault number kind text → HasFault number' kind' text → (number ≡ number') × (kind ≡ kind')

@@ -27,8 +27,8 @@ pub fn decode(alloc: Global, pieces: &[Vec<u8>]) -> Result<Vec<Arrived>, FeedFau
     Ok(rows)
 }
 
-/// A law: no stream has two readings. What has come of it is rows and the beginning of one in one way at most, or it
-/// has a fault, and one only; and a stream that ends is rows in one way at most, or has one fault.
+/// A law: every stream has exactly one reading. What has come of it is rows and the beginning of one, or has a fault
+/// behind rows; a stream that ends is rows, or has a first fault; and each of these is in one way only.
 pub fn one_reading()
     ensures begun { (text : List ℕ) → HasOneReading text }
     ensures ended { (text : List ℕ) → HasOneEnd text }

@@ -6,7 +6,7 @@ use Rattle.flight_row.specs.Rows.{SpellAll}
 use Rattle.flight_feed.specs.declared.fault.FeedFault.TheVariants as Fault
 use Rattle.flight_feed.specs.declared.fault.FeedKind.TheVariants.{Cut}
 use Rattle.flight_feed.specs.Stream.{Advances, HasFault, text_of}
-use Rattle.flight_feed.proofs.Ends.{no_part}
+use Rattle.flight_feed.proofs.Parts.{no_part}
 use Rattle.flight_feed.proofs.Runs.{advances_more}
 use Rattle.flight_feed.proofs.Pieces.{nothing_came, text_more, text_rest, refused_all, cut_all, whole_all, only_whole}
 use Rattle.flight_feed.proofs.stream.decode.Goals as goal
