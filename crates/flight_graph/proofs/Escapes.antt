@@ -5,7 +5,8 @@ use Rattle.std.specs.Str.{IsUtf8, IsCharBoundary}
 use Rattle.std.proofs.lemmas.Str.{IsCharBoundary-after_ascii}
 use Rattle.std.proofs.lemmas.Bool.Decides.{nat_tests}
 use Rattle.std.proofs.lemmas.List.Elements.{recursion_from_All}
-use Rattle.flight_graph.specs.Text.{escaped, is_escaped}
+use Rattle.flight_graph.specs.Text.{escaped}
+use Rattle.flight_graph.specs.Writing.{is_escaped}
 
 or_false : (a b : Bool) → (a || b) ≡ false → (a ≡ false) × (b ≡ false)
 or_false true b h = absurd (let k : true ≡ false = h in cc)

@@ -5,7 +5,8 @@ use Rattle.std.proofs.lemmas.List.{take_more, map-append, length-map, length-tak
 use Rattle.std.proofs.lemmas.Bool.Decides.{nat_tests}
 use Rattle.std.proofs.lemmas.Grind.{flat_map-append}
 use Rattle.flight_value.specs.declared.graph.Node.{Node}
-use Rattle.flight_graph.specs.Text.{commas, comma_before, line_text, lines_from}
+use Rattle.flight_graph.specs.Text.{commas, line_text, lines_from}
+use Rattle.flight_graph.specs.Writing.{comma_before}
 
 -- one more item behind others
 commas-snoc : {A : Type 0} (text : A → List ℕ) (xs : List A) (x : A) → commas text (xs ++ x ∷ []) ≡ commas text xs ++ (comma_before (length xs) ++ text x)

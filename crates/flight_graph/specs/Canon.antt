@@ -17,6 +17,7 @@ use Rattle.flight_value.specs.declared.graph.Graph.{Graph}
 abbrev pub node_at : List Node → ℕ → Node
 node_at nodes n = unwrap_or (slice_get nodes n) (node.Array [])
 
+-- its slots
 abbrev pub slots_at : List Node → ℕ → List Slot
 slots_at nodes n = slots_of (node_at nodes n)
 
@@ -25,6 +26,7 @@ abbrev pub place_from : ℕ → ℕ → List ℕ → Option ℕ
 place_from i n [] = None
 place_from i n (m ∷ ms) = if nat_eq m n then Some i else place_from (i + 1) n ms
 
+-- where n stands in a list, counted from 0
 abbrev pub place_in : ℕ → List ℕ → Option ℕ
 place_in n ms = place_from 0 n ms
 
@@ -47,11 +49,12 @@ visited_of g = walk (suc (length g.nodes)) g.nodes [] (g.root ∷ [])
 
 -- ---- new numbers
 
--- a slot with a node's place among the visited for its number
+-- a slot with its node's place among the visited for its number; a visited node names visited nodes alone
 abbrev pub renamed : List ℕ → Slot → Slot
 renamed visited (slot.Atom a) = slot.Atom a
 renamed visited (slot.Node n) = slot.Node (unwrap_or (place_in n visited) 0)
 
+-- the end of a stream, a property and an entry with their slots changed
 abbrev pub map_end : (Slot → Slot) → End → End
 map_end f end.Going = end.Going
 map_end f (end.Closed final) = end.Closed (f final)
@@ -76,12 +79,13 @@ map_slots f (node.Action id bound) = node.Action id (f bound)
 
 -- ---- the canon
 
+-- these nodes in order, renumbered by their places
 abbrev pub canon_under : Graph → List ℕ → Graph
 canon_under g visited = record {
   root = renamed visited g.root;
   nodes = map (λ n. map_slots (renamed visited) (node_at g.nodes n)) visited;
 }
 
--- the visited nodes in order, renumbered by their places
+-- the visited nodes in order, renumbered
 unfoldable pub canon_of : Graph → Graph
 canon_of g = canon_under g (visited_of g)

@@ -1,3 +1,4 @@
 pub mod Canon
 pub mod Text
 pub mod Walk
+pub mod Writing

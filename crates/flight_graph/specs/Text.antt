@@ -1,5 +1,5 @@
 -- The text of a graph: a line for the root's slot, and then a line for each node of the canon.
-use Rattle.std.specs.Prelude.{ℕ, ◌+◌, ◌/◌, ◌%◌, nat_eq, nat_lt, Bool, ◌||◌, List, [], ◌∷◌, ◌++◌, if◌then◌else◌, codes, decimal, flat_map}
+use Rattle.std.specs.Prelude.{ℕ, ◌+◌, ◌/◌, ◌%◌, nat_eq, nat_lt, List, [], ◌∷◌, ◌++◌, if◌then◌else◌, codes, decimal, flat_map}
 use Rattle.std.specs.List.{join_by}
 use Rattle.std.specs.Fmt.{signed_decimal}
 use Rattle.std.specs.Char.{digit_char}
@@ -35,22 +35,20 @@ escaped byte =
     if nat_lt byte 32 then codes "\\u00" ++ digit_char (byte / 16) ∷ digit_char (byte % 16) ∷ [] else
     byte ∷ []
 
--- whether a byte is escaped at all
-abbrev pub is_escaped : ℕ → Bool
-is_escaped byte = nat_lt byte 32 || (nat_eq byte 34 || nat_eq byte 92)
-
 -- a text as a JSON string
 abbrev pub string_text : List ℕ → List ℕ
 string_text bytes = codes "\"" ++ flat_map escaped bytes ++ codes "\""
 
 -- ---- slots
 
+-- a number that JSON cannot spell
 abbrev pub constant_text : Constant → List ℕ
 constant_text constant.NotANumber = codes "NaN"
 constant_text constant.Infinity = codes "Infinity"
 constant_text constant.MinusInfinity = codes "-Infinity"
 constant_text constant.MinusZero = codes "-0"
 
+-- an atom; dates and imports stand as they are
 abbrev pub atom_text : Atom → List ℕ
 atom_text atom.Null = codes "null"
 atom_text atom.Undefined = codes "undefined"
@@ -69,6 +67,7 @@ atom_text atom.Pending = codes "pending"
 abbrev pub number_text : ℕ → List ℕ
 number_text n = codes "#" ++ decimal n
 
+-- a slot: its atom, or its node's number
 abbrev pub slot_text : Slot → List ℕ
 slot_text (slot.Atom a) = atom_text a
 slot_text (slot.Node n) = number_text n
@@ -79,26 +78,27 @@ slot_text (slot.Node n) = number_text n
 abbrev pub commas : {A : Type 0} → (A → List ℕ) → List A → List ℕ
 commas text items = join_by text (codes ",") items
 
--- what stands before an item of such a row, which is the first or not
-abbrev pub comma_before : ℕ → List ℕ
-comma_before at = if nat_eq at 0 then [] else codes ","
-
+-- a property
 abbrev pub prop_text : Prop → List ℕ
 prop_text p = string_text p.name ++ codes ":" ++ slot_text p.slot
 
+-- an entry of a map
 abbrev pub pair_text : Pair → List ℕ
 pair_text p = codes "[" ++ slot_text p.key ++ codes "," ++ slot_text p.value ++ codes "]"
 
+-- what a stream was opened as
 abbrev pub flow_text : Flow → List ℕ
 flow_text flow.Readable = codes "readable"
 flow_text flow.Iterable = codes "iterable"
 flow_text flow.Iterator = codes "iterator"
 
+-- how a stream ends, as far as it is known
 abbrev pub end_text : End → List ℕ
 end_text end.Going = codes "open"
 end_text (end.Closed final) = codes "closed " ++ slot_text final
 end_text (end.Broken digest) = codes "failed " ++ string_text digest
 
+-- a node, by what it is
 abbrev pub node_text : Node → List ℕ
 node_text (node.Array items) = codes "array [" ++ commas slot_text items ++ codes "]"
 node_text (node.Object props) = codes "object {" ++ commas prop_text props ++ codes "}"
@@ -124,5 +124,6 @@ lines_from n (node ∷ nodes) = line_text n node ++ lines_from (n + 1) nodes
 abbrev pub graph_text : Graph → List ℕ
 graph_text g = codes "root " ++ slot_text g.root ++ codes "\n" ++ lines_from 0 g.nodes
 
+-- the text of a graph: that of its canon
 unfoldable pub text_of : Graph → List ℕ
 text_of g = graph_text (canon_of g)

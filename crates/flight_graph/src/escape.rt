@@ -1,6 +1,7 @@
 ghost use Rattle.std.specs.Prelude.{◌≡◌, [], ◌∷◌, ◌++◌, ◌/◌, ◌%◌, ◌<◌, codes, OnOk, MatchOption, All, length, take, slice_index, string_bytes, true, false};
 ghost use Rattle.std.specs.Char.{digit_char};
-ghost use Rattle.flight_graph.specs.Text.{escaped, is_escaped, string_text};
+ghost use Rattle.flight_graph.specs.Text.{escaped, string_text};
+ghost use Rattle.flight_graph.specs.Writing.{is_escaped};
 
 use flight_value::Memory;
 

@@ -2,8 +2,9 @@ ghost use Rattle.std.specs.Prelude.{◌≡◌, ◌<◌, ◌++◌, ℕ, All, IfOk
 ghost use Rattle.std.specs.Fmt.{signed_decimal};
 ghost use Rattle.flight_value.specs.Graph.{IsValid};
 ghost use Rattle.flight_graph.specs.Canon.{map_end, map_pair, map_prop, map_slots, node_at};
-ghost use Rattle.flight_graph.specs.Text.{atom_text, comma_before, commas, constant_text, end_text, flow_text, line_text, lines_from, node_text, pair_text, prop_text, slot_text, string_text, text_of};
+ghost use Rattle.flight_graph.specs.Text.{atom_text, commas, constant_text, end_text, flow_text, line_text, lines_from, node_text, pair_text, prop_text, slot_text, string_text, text_of};
 ghost use Rattle.flight_graph.specs.Walk.{placed};
+ghost use Rattle.flight_graph.specs.Writing.{comma_before};
 
 use crate::escape::write_string;
 use crate::rename::{node_in, place_of};

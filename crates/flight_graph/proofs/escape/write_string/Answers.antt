@@ -1,7 +1,8 @@
 use Rattle.std.proofs.Common.{◌≡◌, ◌++◌, List, ℕ, get_or, string_bytes, ◌∙◌, ap, subst}
 use Rattle.std.specs.List.{flat_map}
 use Rattle.std.specs.Prelude.{All, false}
-use Rattle.flight_graph.specs.Text.{escaped, is_escaped}
+use Rattle.flight_graph.specs.Text.{escaped}
+use Rattle.flight_graph.specs.Writing.{is_escaped}
 use Rattle.flight_graph.proofs.Escapes.{IsFound, all_written, front_range, past_found, run_written, string_written}
 use Rattle.flight_graph.proofs.escape.write_string.Goals as goal
 
