@@ -106,7 +106,7 @@ id_next ds id b p =
       | inr plain ↦
           let other : b ≢ 58 = grind (arith, nat_tests) in
           let bad : (is_hex b ≡ true → (length ds ≡ 8) ⊎ (2 ^ 31 ≤ 16 * id + hex_value b)) → Next (ds ++ b ∷ []) =
-            λ why. is_bad (ds ++ b ∷ []) BadId (inl (record { digits = ds; id = id; byte = b; are_digits = p.are_digits; small = p.small; no_colon = other; no_digit = why; spelled = refl })) in
+          λ why. is_bad (ds ++ b ∷ []) BadId (inl (record { digits = ds; id = id; byte = b; are_digits = p.are_digits; small = p.small; no_colon = other; no_digit = why; spelled = refl })) in
           elim (bool_cases (is_hex b)) [
             | inr no_hex ↦ bad (λ hex. let both : true ≡ false = sym hex ∙ no_hex in cc)
             | inl hex ↦
@@ -159,7 +159,7 @@ length_next : (bytes : List ℕ) (id count value b : ℕ) → InLength bytes id 
 length_next bytes id count value b p =
     let regrouped : bytes ++ b ∷ [] ≡ p.head ++ (p.digits ++ b ∷ []) = rw p.spelled (append_assoc p.head p.digits (b ∷ [])) in
     let bad : (b ≡ 44 → p.digits ≡ []) → (is_hex b ≡ true → length p.digits ≡ 8) → Next (bytes ++ b ∷ []) =
-      λ comma hex. is_bad (bytes ++ b ∷ []) BadLength (record { head = p.head; id = id; digits = p.digits; value = value; byte = b; is_head = p.is_head; are_digits = p.are_digits; no_comma = comma; no_digit = hex; spelled = regrouped ∙ sym (append_assoc p.head p.digits (b ∷ [])) }) in
+    λ comma hex. is_bad (bytes ++ b ∷ []) BadLength (record { head = p.head; id = id; digits = p.digits; value = value; byte = b; is_head = p.is_head; are_digits = p.are_digits; no_comma = comma; no_digit = hex; spelled = regrouped ∙ sym (append_assoc p.head p.digits (b ∷ [])) }) in
     elim (bool_cases (is_hex b)) [
       | inl hex ↦
           let other : b ≡ 44 → p.digits ≡ [] = λ e. absurd (no_comma b hex e) in
@@ -197,6 +197,7 @@ length_next bytes id count value b p =
   where
     no_comma : (x : ℕ) → is_hex x ≡ true → x ≡ 44 → ⊥
     no_comma x hex e = let w : is_hex 44 ≡ true = rw e at hex in cc
+
     nil : (xs : List ℕ) → length xs ≤ 0 → xs ≡ []
     nil [] h = refl
     nil (x ∷ xs) h = absurd (omega (arith, h))

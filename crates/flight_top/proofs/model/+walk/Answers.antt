@@ -44,8 +44,8 @@ walk_array-returns-in-Some-Some-Some-clause-nodes t c =
     let form : has_element_form (behind (items_view xs)) ≡ true = sym (ap (λ xs. has_element_form (behind (items_view xs))) c.as_slice-2.ensures.value) ∙ c.if-not-is_element.ensures.0 refl in
     let w = c.in-Some-Some-Some in
     let f = parts xs (into_iter_items c.next.new.self) (into_iter_items c.next-2.new.self) (into_iter_items c.next-3.new.self) (into_iter_items c.next-4.new.self)
-        (into_iter_len c.into_iter-items.result) (into_iter_len c.next.new.self) (into_iter_len c.next-2.new.self) c.next.result w.tag w.key w.props form
-        (rw c.into_iter-items.ensures.rest at c.next.ensures.cases) w.ensures.cases.1 w.ensures.cases.0 w.ensures'.cases.0 w.ensures''.cases.0 in
+    (into_iter_len c.into_iter-items.result) (into_iter_len c.next.new.self) (into_iter_len c.next-2.new.self) c.next.result w.tag w.key w.props form
+    (rw c.into_iter-items.ensures.rest at c.next.ensures.cases) w.ensures.cases.1 w.ensures.cases.0 w.ensures'.cases.0 w.ensures''.cases.0 in
     let marked : is_mark f.0 ≡ true = sym (ap (λ xs. is_marked (items_view xs)) c.as_slice.ensures.value ∙ ap is_marked f.1) ∙ c.if-not-starts_with_mark.ensures.0 refl in
     rw f.1 (element_out c.args.out.now.items c.walk.new.out.items c.walk-in-Some-Some-Some.new.out.items c.walk-in-Some-Some-Some-2.new.out.items f.0 (view w.tag) (view w.key) (view w.props) marked
     c.in_ok-tag-in-Some-Some-Some.ensures.nodes c.in_ok-key-in-Some-Some-Some.ensures.nodes c.in_ok-props-in-Some-Some-Some.ensures.nodes)
@@ -56,7 +56,7 @@ walk_array-returns-clause-refused t c refused =
     let form : has_element_form (behind (items_view xs)) ≡ true = sym (ap (λ xs. has_element_form (behind (items_view xs))) c.as_slice-2.ensures.value) ∙ c.if-not-is_element.ensures.0 refl in
     let four : into_iter_len c.into_iter-items.result ≡ 4 = c.into_iter-items.ensures.len ∙ (sym c.as_slice-2.ensures.len ∙ (ap length c.as_slice-2.ensures.value ∙ form_length xs form)) in
     let there = all_there (into_iter_len c.into_iter-items.result) (into_iter_len c.next.new.self) (into_iter_len c.next-2.new.self) (into_iter_len c.next-3.new.self) (into_iter_len c.next-4.new.self)
-        c.next.result c.next-2.result c.next-3.result c.next-4.result four c.next.ensures.len c.next-2.ensures.len c.next-3.ensures.len c.next-2.ensures.variant c.next-3.ensures.variant c.next-4.ensures.variant in
+    c.next.result c.next-2.result c.next-3.result c.next-4.result four c.next.ensures.len c.next-2.ensures.len c.next-3.ensures.len c.next-2.ensures.variant c.next-3.ensures.variant c.next-4.ensures.variant in
     elim c.in_default.branch [
       | walk_array-in_default-via-in-Some+in-Some+in_default w ↦ absurd (false≢true (subst IsSome w.in_default.is-2 there.2))
       | walk_array-in_default-via-in-Some+in_default w ↦ absurd (false≢true (subst IsSome w.in_default.is-1 there.1))
