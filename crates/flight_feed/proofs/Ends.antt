@@ -1,12 +1,12 @@
 -- Texts that end, and texts that begin with a written row.
-use Rattle.std.proofs.Common.{◌≡◌, ◌≢◌, ℕ, ◌+◌, ◌<◌, ◌⊎◌, inl, inr, List, [], ◌∷◌, ◌++◌, length, refl, sym, ◌∙◌, ap, subst, arith, append_assoc, append-nil}
+use Rattle.std.proofs.Common.{◌≡◌, ℕ, ◌+◌, ◌⊎◌, inl, inr, List, [], ◌∷◌, ◌++◌, length, refl, sym, ◌∙◌, ap, append_assoc, append-nil}
 use Rattle.flight_row.specs.declared.row.Row.{Row}
-use Rattle.flight_row.specs.Rows.{Item, handed, hint, SpellsItem, SpellAll}
+use Rattle.flight_row.specs.Rows.{Item, handed, SpellsItem, SpellAll}
 use Rattle.flight_row.specs.Written.{spelling_of, IsWritable}
 use Rattle.flight_row.proofs.Spelled.{spelling_of-Spells}
 use Rattle.flight_feed.specs.declared.fault.FeedKind.{FeedKind}
 use Rattle.flight_feed.specs.declared.fault.FeedKind.TheVariants.{BadId, BadTag, DevRow, BadLength, RowTooLong, BadText, Cut}
-use Rattle.flight_feed.specs.Stream.{Splits, Refuses, IsCut, Fails, HasFault, HasOneReading, HasOneEnd, IsReadBack}
+use Rattle.flight_feed.specs.Stream.{Splits, Refuses, IsCut, Fails, HasFault, HasOneEnd, IsReadBack}
 use Rattle.flight_feed.proofs.Parts.{no_part}
 use Rattle.flight_feed.proofs.Scan.{scan, start}
 use Rattle.flight_feed.proofs.Readings.{has_one_reading, item_whole, one_item, part_tail, bad_tail, IsTail}

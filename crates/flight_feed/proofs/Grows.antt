@@ -1,7 +1,6 @@
 -- One byte more: a row goes on, is whole, or has a fault. So every text has a reading.
-use Rattle.std.proofs.Common.{◌≡◌, ◌≢◌, ℕ, suc, zero, ◌+◌, ◌-◌, ◌*◌, ◌^◌, ◌<◌, ◌≤◌, ◌&&◌, ◌⊎◌, inl, inr, not, Bool, true, false, nat_eq, List, [], ◌∷◌, ◌++◌, length, take, refl, sym, ◌∙◌, ap, subst, arith, append_assoc, append-nil, length-append}
-use Rattle.std.specs.List.{list_all, fold}
-use Rattle.std.specs.Prelude.{IsUtf8}
+use Rattle.std.proofs.Common.{◌≡◌, ◌≢◌, ℕ, suc, zero, ◌+◌, ◌*◌, ◌^◌, ◌<◌, ◌≤◌, ◌⊎◌, inl, inr, not, Bool, true, false, nat_eq, List, [], ◌∷◌, ◌++◌, length, refl, sym, ◌∙◌, ap, subst, arith, append_assoc, append-nil, length-append}
+use Rattle.std.specs.List.{list_all}
 use Rattle.std.specs.Str.{is_utf8}
 use Rattle.std.proofs.lemmas.Str.{is_utf8-from_IsUtf8, IsUtf8-from_is_utf8}
 use Rattle.std.proofs.lemmas.Bool.Decides.{nat_tests}
@@ -9,20 +8,19 @@ use Rattle.std.proofs.lemmas.Bool.{cases_lt}
 use Rattle.std.proofs.lemmas.List.Folds.{list_all-append}
 use Rattle.std.proofs.lemmas.Grind.{fold-append}
 use Rattle.std.specs.Cmp.Derive.{both_true}
-use Rattle.flight_row.specs.declared.row.RowKind.{RowKind}
 use Rattle.flight_row.specs.declared.row.RowKind.TheVariants.{Model, Text}
 use Rattle.flight_row.specs.declared.tag.Tag.{Tag}
 use Rattle.flight_row.specs.declared.tag.Tag.TheVariants as tag
-use Rattle.flight_row.specs.Rows.{tag_of, is_hex, hex_value, number, is_newline, longest, AreDigits, IsNumber, IsHead, IsTextHead, IsLine, Item, handed, hint, SpellsItem, SpellAll}
+use Rattle.flight_row.specs.Rows.{tag_of, is_hex, hex_value, is_newline, longest, AreDigits, IsHead, IsTextHead, IsLine, Item, hint, SpellsItem}
 use Rattle.flight_feed.specs.declared.fault.FeedKind.{FeedKind}
-use Rattle.flight_feed.specs.declared.fault.FeedKind.TheVariants.{BadId, BadTag, DevRow, BadLength, RowTooLong, BadText, Cut}
+use Rattle.flight_feed.specs.declared.fault.FeedKind.TheVariants.{BadId, BadTag, DevRow, BadLength, RowTooLong, BadText}
 use Rattle.flight_feed.specs.declared.begun.Coming.{Coming}
 use Rattle.flight_feed.specs.declared.begun.Coming.TheVariants.{Row as ARow, Hint as AHint}
-use Rattle.flight_feed.specs.Parts.{InId, InLength, InText, InLine, InHint, HasFirst, IsPart, in_id, behind_id, behind_colon, in_length, in_text, in_line, in_hint}
-use Rattle.flight_feed.specs.Faults.{IsBad, IsPast}
+use Rattle.flight_feed.specs.Parts.{InId, InLength, InText, IsPart, in_id, behind_id, behind_colon, in_length, in_text, in_line, in_hint}
+use Rattle.flight_feed.specs.Faults.{IsBad}
 use Rattle.flight_feed.specs.Stream.{Splits, Refuses}
-use Rattle.flight_feed.specs.Begun.{IsBefore, MayBegin, InComing, item_of}
-use Rattle.flight_feed.proofs.Heads.{tagged, begins_line, begins_length, begins_hint, no_digits, no_line}
+use Rattle.flight_feed.specs.Begun.{IsBefore, MayBegin, item_of}
+use Rattle.flight_feed.proofs.Heads.{tagged, begins_line, begins_length, begins_hint, no_line}
 use Rattle.flight_feed.proofs.Forms.{HasForm}
 use Rattle.flight_feed.proofs.Parts.{no_part}
 use Rattle.flight_feed.proofs.Lines.{has_form, too_long_at, may_begin-take, may_go_on}

@@ -1,10 +1,10 @@
 -- Bytes before a payload.
-use Rattle.std.proofs.Common.{◌≡◌, ℕ, suc, zero, ◌+◌, ◌<◌, ◌≤◌, ◌&&◌, not, Bool, true, false, nat_eq, List, [], ◌∷◌, ◌++◌, length, take, slice_index, refl, sym, arith, append-nil, append_assoc}
+use Rattle.std.proofs.Common.{◌≡◌, ℕ, ◌<◌, true, List, [], ◌∷◌, ◌++◌, length, take, slice_index, refl, sym, arith, append-nil}
 use Rattle.flight_row.specs.declared.row.RowKind.{RowKind}
 use Rattle.flight_row.specs.declared.row.RowKind.TheVariants.{Model, Import, Error, Text, Open, Close}
 use Rattle.flight_row.specs.declared.tag.Tag.{Tag}
-use Rattle.flight_row.specs.declared.tag.Tag.TheVariants.{Plain, Sized, Line, Hint, Dev, Unknown}
-use Rattle.flight_row.specs.Rows.{tag_of, AreDigits, IsHead, IsTagged, IsLineHead, IsHintHead, IsLine, longest}
+use Rattle.flight_row.specs.declared.tag.Tag.TheVariants.{Sized, Line, Hint}
+use Rattle.flight_row.specs.Rows.{tag_of, AreDigits, IsHead, IsTagged, IsLineHead, IsLine}
 use Rattle.flight_row.proofs.Tags.{tag_of-not_model}
 use Rattle.flight_feed.specs.Parts.{InLength, InLine, InHint}
 use Rattle.flight_feed.specs.declared.begun.Mode.{Mode}

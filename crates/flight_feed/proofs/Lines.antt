@@ -1,5 +1,5 @@
 -- Payloads that a newline ends.
-use Rattle.std.proofs.Common.{◌≡◌, ◌≢◌, ℕ, suc, zero, ◌+◌, ◌-◌, append_assoc, length-take, ◌<◌, ◌≤◌, ◌&&◌, not, Bool, true, false, List, [], ◌∷◌, ◌++◌, length, take, slice_index, refl, arith, subst, sym, ap, length-append, inl, inr, ◌⊎◌}
+use Rattle.std.proofs.Common.{◌≡◌, ℕ, suc, zero, ◌+◌, ◌-◌, append_assoc, length-take, ◌<◌, ◌≤◌, not, Bool, true, List, [], ◌∷◌, ◌++◌, length, take, slice_index, refl, arith, ap, length-append, inl, inr}
 use Rattle.std.specs.List.{list_all}
 use Rattle.std.specs.Prelude.{Option, Some, None, unwrap_or}
 use Rattle.std.proofs.lemmas.Bool.{false_from_ne_true}
@@ -7,14 +7,12 @@ use Rattle.memchr.specs.Find.{IsFirstByte, is_byte}
 use Rattle.std.proofs.lemmas.List.Folds.{list_all-append}
 use Rattle.std.specs.Cmp.Derive.{both_true}
 use Rattle.std.proofs.lemmas.List.{take_more}
-use Rattle.flight_row.specs.declared.row.RowKind.{RowKind}
-use Rattle.flight_row.specs.declared.row.RowKind.TheVariants.{Model}
 use Rattle.flight_row.specs.Rows.{is_newline, is_one_line, IsLine, begins_model, longest}
 use Rattle.flight_feed.specs.declared.fault.FeedKind.TheVariants.{RowTooLong}
 use Rattle.flight_feed.specs.declared.begun.Coming.{Coming}
 use Rattle.flight_feed.specs.declared.begun.Coming.TheVariants.{Row as ARow, Hint as AHint}
-use Rattle.flight_feed.specs.Faults.{IsBad, IsPast, TooLongLine, TooLongHint}
-use Rattle.flight_feed.specs.Parts.{HasFirst, InLine, InHint}
+use Rattle.flight_feed.specs.Faults.{IsBad, IsPast}
+use Rattle.flight_feed.specs.Parts.{HasFirst}
 use Rattle.flight_feed.specs.Begun.{IsBefore, MayBegin, InComing}
 use Rattle.flight_feed.proofs.Digits.{both_parts}
 use Rattle.flight_feed.proofs.Forms.{HasForm, line_row}

@@ -1,13 +1,11 @@
 -- What a reader keeps is the beginning of a row.
-use Rattle.std.proofs.Common.{◌≡◌, ℕ, ◌<◌, List, [], ◌∷◌, ◌++◌, sym, subst, append-nil, arith}
-use Rattle.flight_row.specs.declared.row.RowKind.{RowKind}
-use Rattle.flight_feed.specs.declared.begun.Coming.{Coming}
+use Rattle.std.proofs.Common.{◌≡◌, ℕ, List, [], ◌++◌, append-nil, arith}
 use Rattle.flight_feed.specs.declared.begun.Coming.TheVariants.{Row as ARow, Hint as AHint}
 use Rattle.flight_feed.specs.declared.begun.Mode.{Mode}
 use Rattle.flight_feed.specs.declared.begun.Mode.TheVariants as mode
 use Rattle.flight_feed.specs.Parts.{IsPart, in_id, behind_id, behind_colon, in_length, in_text, in_line, in_hint}
 use Rattle.flight_feed.proofs.Heads.{no_digits}
-use Rattle.flight_feed.specs.Begun.{Begins, InComing, IsUnfinished}
+use Rattle.flight_feed.specs.Begun.{Begins, IsUnfinished}
 
 without : (h p : List ℕ) → IsPart h → p ≡ [] → IsPart (h ++ p)
 without h p part none = rw (none, append-nil) part

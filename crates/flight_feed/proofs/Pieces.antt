@@ -1,15 +1,15 @@
 -- Piece after piece.
-use Rattle.std.proofs.Common.{◌≡◌, ◌≢◌, ℕ, ◌+◌, ◌<◌, List, [], ◌∷◌, ◌++◌, length, take, drop, get_or, refl, sym, ◌∙◌, ap, subst, append_assoc, append-nil, arith}
+use Rattle.std.proofs.Common.{◌≡◌, ◌≢◌, ℕ, ◌+◌, ◌<◌, List, [], ◌∷◌, ◌++◌, length, take, drop, get_or, refl, sym, ◌∙◌, ap, append_assoc, append-nil, arith}
 use Rattle.std.proofs.lemmas.List.{take_more, take-append-drop}
 use Rattle.std.proofs.lemmas.Grind.{flat_map-append}
-use Rattle.std.specs.Prelude.{Vec}
+use Rattle.std.specs.Prelude.{Vec, map}
 use Rattle.std.specs.declared.alloc.Global.{Global}
-use Rattle.flight_row.specs.Rows.{Item, SpellAll}
+use Rattle.flight_row.specs.Rows.{Item, handed, hint, SpellAll, rows_of, HasRows}
 use Rattle.flight_feed.specs.declared.arrived.Arrived.{Arrived}
 use Rattle.flight_feed.specs.declared.fault.FeedKind.{FeedKind}
 use Rattle.flight_feed.specs.declared.fault.FeedKind.TheVariants.{Cut}
 use Rattle.flight_feed.specs.Parts.{IsPart}
-use Rattle.flight_feed.specs.Stream.{Advances, IsRefused, Splits, Refuses, HasFault, numbered, text_of}
+use Rattle.flight_feed.specs.Stream.{Advances, IsRefused, HasFault, numbered, text_of}
 use Rattle.flight_feed.proofs.Runs.{advances_more}
 use Rattle.flight_feed.proofs.Ends.{refused_fails, has_one_end}
 
@@ -57,3 +57,13 @@ only_whole text rows here others there = here.2 ∙ ap (numbered 1) ((has_one_en
 
 pub nothing_came : Advances [] 1 [] [] [] 1
 nothing_came = record { items = []; front = []; added = refl; counted = refl; spelled = refl; whole = refl }
+
+-- without their numbers they are the rows of the stream
+map-numbered : (n : ℕ) (items : List Item) → map (λ (a : Arrived). a.row) (numbered n items) ≡ rows_of items
+map-numbered n [] = refl
+map-numbered n (handed r ∷ items) = ap (λ xs. r ∷ xs) (map-numbered (n + 1) items)
+map-numbered n (hint ∷ items) = map-numbered (n + 1) items
+
+pub has_rows : (text : List ℕ) (rows : List Arrived) → (items : List Item) × SpellAll text items × (rows ≡ numbered 1 items) → HasRows text (map (λ (a : Arrived). a.row) rows)
+has_rows text rows here =
+    record { items = here.0; spelled = here.1; is_rows = ap (map (λ (a : Arrived). a.row)) here.2 ∙ map-numbered 1 here.0 }

@@ -1,25 +1,22 @@
 -- No text has two readings.
-use Rattle.std.proofs.Common.{◌≡◌, ◌≢◌, ℕ, suc, zero, ◌+◌, ◌-◌, ◌*◌, ◌^◌, ◌<◌, ◌≤◌, ◌&&◌, ◌||◌, not, Bool, true, false, nat_eq, nat_lt, List, [], ◌∷◌, ◌++◌, length, refl, sym, ◌∙◌, ap, subst, arith, append_assoc, append-nil, inl, inr, ◌⊎◌, length-append}
-use Rattle.std.specs.Prelude.{nat_le, if◌then◌else◌, IsUtf8}
+use Rattle.std.proofs.Common.{◌≡◌, ◌≢◌, ℕ, ◌+◌, ◌-◌, ◌*◌, ◌<◌, ◌≤◌, ◌&&◌, ◌||◌, not, Bool, true, false, nat_eq, nat_lt, List, [], ◌∷◌, ◌++◌, length, refl, sym, ◌∙◌, ap, arith, append_assoc, append-nil, inl, inr, ◌⊎◌}
+use Rattle.std.specs.Prelude.{nat_le, if◌then◌else◌}
 use Rattle.std.proofs.lemmas.Bool.Decides.{nat_tests}
-use Rattle.flight_row.specs.declared.row.Row.{Row}
-use Rattle.flight_row.specs.declared.row.RowKind.{RowKind}
-use Rattle.flight_row.specs.declared.row.RowKind.TheVariants.{Model, Text}
 use Rattle.flight_row.specs.declared.tag.Tag.{Tag}
 use Rattle.flight_row.specs.declared.tag.Tag.TheVariants as tag
-use Rattle.flight_row.specs.Rows.{tag_of, is_hex, hex_value, longest, IsLine, begins_model, Spells, Item, handed, hint, SpellsItem, SpellAll}
+use Rattle.flight_row.specs.Rows.{tag_of, is_hex, hex_value, longest, IsLine, begins_model, Item, handed, hint, SpellsItem, SpellAll}
 use Rattle.flight_feed.specs.declared.fault.FeedKind.{FeedKind}
 use Rattle.flight_feed.specs.declared.fault.FeedKind.TheVariants.{BadId, BadTag, DevRow, BadLength, RowTooLong, BadText, Cut}
 use Rattle.flight_feed.specs.declared.begun.Coming.{Coming}
 use Rattle.flight_feed.specs.declared.begun.Coming.TheVariants.{Row as ARow, Hint as AHint}
 use Rattle.flight_feed.specs.Parts.{IsPart, in_id, behind_id, behind_colon, in_length, in_text, in_line, in_hint, HasFirst}
-use Rattle.flight_feed.specs.Faults.{IsBad, IsPast, NoId, NoHint, NoLength}
-use Rattle.flight_feed.specs.Begun.{IsBefore, IsFit, item_of}
-use Rattle.flight_feed.specs.Stream.{Splits, Refuses, HasOneReading}
+use Rattle.flight_feed.specs.Faults.{IsBad, IsPast}
+use Rattle.flight_feed.specs.Begun.{IsBefore}
+use Rattle.flight_feed.specs.Stream.{HasOneReading}
 use Rattle.flight_feed.proofs.Parts.{no_part}
 use Rattle.flight_feed.proofs.Grows.{reads}
-use Rattle.flight_feed.proofs.Scan.{Place, at_id, at_tag, at_colon, at_length, at_text, at_line, Step, to, ends, stops, Seen, goes, whole, fails, settle, line_step, tag_step, colon_step, comma_step, step, after, scan, start, scan-nil, scan-cons}
-use Rattle.flight_feed.proofs.Ways.{goes_by, scan_digits, scan_bare, scan_head, scan_tagged, scan_hint_head, Starts, scan_before, starts_row, starts_hint, scan_line, scan_past, scan_number, scan_text_head, scan_some, form_settles, settle-fit, settle-unfit}
+use Rattle.flight_feed.proofs.Scan.{Place, at_id, at_tag, at_colon, at_length, at_text, at_line, Step, to, stops, goes, whole, fails, colon_step, comma_step, step, scan, start, scan-nil, scan-cons}
+use Rattle.flight_feed.proofs.Ways.{goes_by, scan_digits, scan_bare, scan_head, scan_tagged, Starts, scan_before, starts_row, starts_hint, scan_line, scan_past, scan_number, scan_text_head, scan_some, form_settles, settle-fit, settle-unfit}
 
 -- a whole item is the first that is seen, whatever follows
 pub item_whole : (item : Item) (a rest : List ℕ) → SpellsItem a item → scan start (a ++ rest) ≡ whole item rest

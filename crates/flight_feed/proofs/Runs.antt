@@ -1,15 +1,13 @@
 -- Items one after another.
-use Rattle.std.proofs.Common.{◌≡◌, ℕ, suc, ◌+◌, ◌<◌, ◌≤◌, ◌⊎◌, inl, inr, List, [], ◌∷◌, ◌++◌, length, take, drop, refl, sym, ◌∙◌, ap, subst, arith, append_assoc, append-nil, add-zero, length-append}
+use Rattle.std.proofs.Common.{◌≡◌, ℕ, ◌+◌, inl, inr, List, [], ◌∷◌, ◌++◌, length, take, drop, refl, sym, ◌∙◌, ap, subst, arith, append_assoc, append-nil, add-zero, length-append}
 use Rattle.std.proofs.lemmas.List.{take-append-drop}
 use Rattle.flight_row.specs.Rows.{Item, handed, hint, SpellsItem, SpellAll}
 use Rattle.flight_feed.specs.declared.arrived.Arrived.{Arrived}
-use Rattle.flight_feed.specs.declared.fault.FeedKind.{FeedKind}
 use Rattle.flight_feed.specs.declared.begun.Begun.{Begun}
 use Rattle.flight_feed.specs.declared.begun.Stop.{Stop}
 use Rattle.flight_feed.specs.declared.begun.Stop.TheVariants.{Refused, Memory}
-use Rattle.flight_feed.specs.Faults.{IsBad}
 use Rattle.flight_feed.specs.Begun.{GoesOn, IsStopAt, Stops, bytes_of}
-use Rattle.flight_feed.specs.Stream.{Advances, IsRefused, IsLeft, numbered}
+use Rattle.flight_feed.specs.Stream.{Advances, numbered}
 
 pub SpellAll-append : (a b : List ℕ) (is js : List Item) → SpellAll a is → SpellAll b js → SpellAll (a ++ b) (is ++ js)
 SpellAll-append a b [] js h k = rw h k

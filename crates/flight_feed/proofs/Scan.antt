@@ -1,18 +1,15 @@
 -- One way to read: the first item of a text, or where it fails. With it no text has two readings.
-use Rattle.std.proofs.Common.{◌≡◌, ◌≢◌, ℕ, suc, zero, ◌+◌, ◌-◌, ◌*◌, ◌^◌, ◌<◌, ◌≤◌, ◌&&◌, ◌||◌, not, Bool, true, false, nat_eq, nat_lt, List, [], ◌∷◌, ◌++◌, length, refl, sym, ◌∙◌, ap, subst, arith, append_assoc, append-nil, inl, inr, ◌⊎◌, zero-add, add-zero, length-append}
-use Rattle.std.specs.List.{list_all, fold}
-use Rattle.std.specs.Prelude.{nat_le, if◌then◌else◌, IsUtf8}
+use Rattle.std.proofs.Common.{◌≡◌, ℕ, ◌+◌, ◌-◌, ◌*◌, ◌&&◌, ◌||◌, not, nat_eq, nat_lt, List, [], ◌∷◌, ◌++◌, length, refl, ap}
+use Rattle.std.specs.Prelude.{nat_le, if◌then◌else◌}
 use Rattle.std.specs.Str.{is_utf8}
-use Rattle.flight_row.specs.declared.row.RowKind.{RowKind}
 use Rattle.flight_row.specs.declared.row.RowKind.TheVariants.{Model, Text}
 use Rattle.flight_row.specs.declared.tag.Tag.{Tag}
 use Rattle.flight_row.specs.declared.tag.Tag.TheVariants as tag
 use Rattle.flight_row.specs.Rows.{tag_of, is_hex, hex_value, longest, Item, handed, hint}
 use Rattle.flight_feed.specs.declared.fault.FeedKind.{FeedKind}
-use Rattle.flight_feed.specs.declared.fault.FeedKind.TheVariants.{BadId, BadTag, DevRow, BadLength, RowTooLong, BadText, Cut}
+use Rattle.flight_feed.specs.declared.fault.FeedKind.TheVariants.{BadId, BadTag, DevRow, BadLength, RowTooLong, BadText}
 use Rattle.flight_feed.specs.declared.begun.Coming.{Coming}
 use Rattle.flight_feed.specs.declared.begun.Coming.TheVariants.{Row as ARow, Hint as AHint}
-use Rattle.flight_feed.specs.Begun.{item_of}
 
 -- where a reader stands
 pub data Place : Type 0 where

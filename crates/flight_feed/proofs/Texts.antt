@@ -1,6 +1,6 @@
 -- Payloads of a known length.
-use Rattle.std.proofs.Common.{◌≡◌, ℕ, ◌+◌, ◌-◌, ◌<◌, ◌≤◌, List, [], ◌∷◌, ◌++◌, length, take, refl, arith, sym, subst, append_assoc, append-nil, length-append, length-take, add-zero, true, slice_index}
-use Rattle.flight_row.specs.Rows.{IsTextHead, IsTextRow, longest}
+use Rattle.std.proofs.Common.{◌≡◌, ℕ, ◌+◌, ◌<◌, ◌≤◌, List, [], ◌∷◌, ◌++◌, length, take, arith, sym, append_assoc, append-nil, length-append, length-take, true, slice_index}
+use Rattle.flight_row.specs.Rows.{IsTextRow}
 use Rattle.flight_feed.specs.Parts.{InText}
 use Rattle.flight_feed.specs.declared.begun.Mode.{Mode}
 use Rattle.flight_feed.specs.Begun.{Begins, goes_to_head}

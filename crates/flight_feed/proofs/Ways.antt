@@ -1,7 +1,7 @@
 -- What the parts of a row show to one who reads byte by byte.
-use Rattle.std.proofs.Common.{◌≡◌, ◌≢◌, ℕ, suc, zero, ◌+◌, ◌-◌, ◌*◌, ◌^◌, ◌<◌, ◌≤◌, ◌&&◌, ◌||◌, not, Bool, true, false, nat_eq, nat_lt, List, [], ◌∷◌, ◌++◌, length, refl, sym, ◌∙◌, ap, subst, arith, append_assoc, append-nil, inl, inr, ◌⊎◌, zero-add, add-zero, length-append}
+use Rattle.std.proofs.Common.{◌≡◌, ℕ, suc, zero, ◌+◌, ◌-◌, ◌*◌, ◌<◌, ◌≤◌, not, Bool, true, false, nat_eq, nat_lt, List, [], ◌∷◌, ◌++◌, length, refl, sym, ◌∙◌, ap, arith, append_assoc, append-nil, inl, inr, ◌⊎◌, zero-add, add-zero, length-append}
 use Rattle.std.specs.List.{list_all, fold}
-use Rattle.std.specs.Prelude.{nat_le, if◌then◌else◌, IsUtf8}
+use Rattle.std.specs.Prelude.{nat_le, IsUtf8}
 use Rattle.std.specs.Str.{is_utf8}
 use Rattle.std.proofs.lemmas.Str.{is_utf8-from_IsUtf8, IsUtf8-from_is_utf8}
 use Rattle.std.proofs.lemmas.Bool.Decides.{nat_tests}
@@ -10,17 +10,16 @@ use Rattle.flight_row.specs.declared.row.RowKind.{RowKind}
 use Rattle.flight_row.specs.declared.row.RowKind.TheVariants.{Model, Import, Error, Text, Open, Close}
 use Rattle.flight_row.specs.declared.tag.Tag.{Tag}
 use Rattle.flight_row.specs.declared.tag.Tag.TheVariants as tag
-use Rattle.flight_row.specs.Rows.{tag_of, is_hex, hex_value, number, is_newline, is_one_line, longest, AreDigits, IsNumber, IsHead, IsTagged, IsTextHead, IsTextRow, IsLine, IsLineHead, IsHintHead, IsLineRow, IsRow, SpellsHint, begins_model, Item, handed, hint}
+use Rattle.flight_row.specs.Rows.{tag_of, is_hex, hex_value, is_newline, is_one_line, longest, AreDigits, IsHead, IsTagged, IsTextHead, IsTextRow, IsLine, IsHintHead, IsLineRow, begins_model}
 use Rattle.flight_row.proofs.Tags.{tag_of-newline}
-use Rattle.flight_feed.specs.declared.fault.FeedKind.{FeedKind}
-use Rattle.flight_feed.specs.declared.fault.FeedKind.TheVariants.{BadId, BadTag, DevRow, BadLength, RowTooLong, BadText, Cut}
+use Rattle.flight_feed.specs.declared.fault.FeedKind.TheVariants.{RowTooLong, BadText}
 use Rattle.flight_feed.specs.declared.begun.Coming.{Coming}
 use Rattle.flight_feed.specs.declared.begun.Coming.TheVariants.{Row as ARow, Hint as AHint}
 use Rattle.flight_feed.specs.Parts.{HasFirst}
 use Rattle.flight_feed.specs.Begun.{IsBefore, IsFit, item_of}
 use Rattle.flight_feed.proofs.Digits.{both_parts}
 use Rattle.flight_feed.proofs.Forms.{HasForm}
-use Rattle.flight_feed.proofs.Scan.{Place, at_id, at_tag, at_colon, at_length, at_text, at_line, Step, to, ends, stops, Seen, goes, whole, fails, settle, line_step, tag_step, colon_step, comma_step, step, after, scan, start, scan-nil, scan-cons}
+use Rattle.flight_feed.proofs.Scan.{at_id, at_tag, at_colon, at_length, at_text, at_line, Step, to, ends, stops, Seen, fails, settle, line_step, tag_step, colon_step, comma_step, step, after, scan, start, scan-cons}
 
 abbrev pub goes_by : Step → List ℕ → Seen
 goes_by s rest = after s rest (λ q. scan q rest)

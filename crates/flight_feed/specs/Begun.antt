@@ -1,6 +1,5 @@
 -- A row that has begun, as the reader keeps it, and what the next bytes do to it.
 use Rattle.std.specs.Prelude.{ℕ, ◌+◌, ◌<◌, ◌≤◌, ◌≡◌, ◌⊎◌, Bool, true, false, not, List, [], ◌∷◌, ◌++◌, length, take, IsUtf8}
-use Rattle.flight_row.specs.declared.row.RowKind.{RowKind}
 use Rattle.flight_row.specs.declared.row.RowKind.TheVariants.{Model}
 use Rattle.flight_row.specs.declared.tag.Tag.{Tag}
 use Rattle.flight_row.specs.declared.tag.Tag.TheVariants.{Plain}
@@ -15,7 +14,7 @@ use Rattle.flight_feed.specs.declared.begun.Stop.{Stop}
 use Rattle.flight_feed.specs.declared.begun.Stop.TheVariants.{Refused, Memory}
 use Rattle.flight_feed.specs.Parts.{InId, InLength, InText, InLine, InHint}
 use Rattle.flight_feed.specs.Faults.{IsBad}
-use Rattle.flight_feed.specs.Stream.{Advances, IsRefused, IsLeft, numbered}
+use Rattle.flight_feed.specs.Stream.{IsRefused, IsLeft, numbered}
 
 -- what stands before the payload of what comes
 abbrev pub IsBefore : Coming → List ℕ → Type 0

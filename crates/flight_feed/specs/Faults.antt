@@ -3,7 +3,7 @@ use Rattle.std.specs.Prelude.{ℕ, ◌+◌, ◌*◌, ◌^◌, ◌<◌, ◌≤◌
 use Rattle.flight_row.specs.declared.row.RowKind.{RowKind}
 use Rattle.flight_row.specs.declared.row.RowKind.TheVariants.{Model}
 use Rattle.flight_row.specs.declared.tag.Tag.TheVariants.{Sized, Hint, Dev, Unknown}
-use Rattle.flight_row.specs.Rows.{is_hex, hex_value, tag_of, AreDigits, IsHead, IsTagged, IsTextHead, IsLineHead, IsHintHead, IsRow, is_one_line, begins_model, longest}
+use Rattle.flight_row.specs.Rows.{is_hex, hex_value, tag_of, AreDigits, IsTagged, IsTextHead, IsLineHead, IsHintHead, IsRow, is_one_line, begins_model, longest}
 use Rattle.flight_feed.specs.declared.fault.FeedKind.{FeedKind}
 use Rattle.flight_feed.specs.declared.fault.FeedKind.TheVariants.{BadId, BadTag, DevRow, BadLength, RowTooLong, BadText, Cut}
 

@@ -1,6 +1,6 @@
 -- A stream that comes in pieces: the rows in it, the begun row, and where it has no reading.
 use Rattle.std.specs.declared.alloc.Global.{Global}
-use Rattle.std.specs.Prelude.{Vec, flat_map, ℕ, ◌+◌, ◌<◌, ◌≤◌, ◌≡◌, ◌≢◌, ◌⊎◌, List, [], ◌∷◌, ◌++◌, length}
+use Rattle.std.specs.Prelude.{Vec, flat_map, ℕ, ◌+◌, ◌≡◌, ◌≢◌, ◌⊎◌, List, [], ◌∷◌, ◌++◌, length}
 use Rattle.flight_row.specs.declared.row.Row.{Row}
 use Rattle.flight_row.specs.Rows.{Item, handed, hint, SpellAll}
 use Rattle.flight_row.specs.Written.{spelling_of}

@@ -1,5 +1,5 @@
-ghost use Rattle.std.specs.Prelude.{◌≡◌, Ok, Err, IfOk, List, ℕ};
-ghost use Rattle.flight_row.specs.Rows.{Item, SpellAll};
+ghost use Rattle.std.specs.Prelude.{◌≡◌, Ok, Err, IfOk, List, ℕ, map};
+ghost use Rattle.flight_row.specs.Rows.{HasRows, Item, SpellAll};
 ghost use Rattle.flight_row.specs.Written.{IsWritable};
 ghost use Rattle.flight_row.specs.declared.row.Row.{Row};
 ghost use Rattle.flight_feed.specs.Stream.{HasFault, HasOneEnd, HasOneReading, IsReadBack, numbered, text_of};
@@ -15,6 +15,7 @@ use std::alloc::Global;
 /// cut into pieces.
 pub fn decode(alloc: Global, pieces: &[Vec<u8>]) -> Result<Vec<Arrived>, FeedFault>
     ensures rows { IfOk result (λ rows. (items : List Item) × SpellAll (text_of pieces.now) items × (rows.items ≡ numbered 1 items)) }
+    ensures stream { IfOk result (λ rows. HasRows (text_of pieces.now) (map (λ arrived. arrived.row) rows.items)) }
     ensures only { IfOk result (λ rows. (items : List Item) → SpellAll (text_of pieces.now) items → rows.items ≡ numbered 1 items) }
     ensures fault { (number : ℕ) (kind : FeedKind) → result ≡ Err (FeedFault.Row number kind) → HasFault number kind (text_of pieces.now) }
 {

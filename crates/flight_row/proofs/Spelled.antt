@@ -1,13 +1,12 @@
 -- What is written of a row spells it.
-use Rattle.std.proofs.Common.{◌≡◌, ◌≢◌, ℕ, ◌^◌, ◌<◌, ◌≤◌, List, [], ◌∷◌, ◌++◌, length, true, refl, sym, ◌∙◌, ap, subst, arith, append_assoc}
-use Rattle.std.specs.Prelude.{IsUtf8}
+use Rattle.std.proofs.Common.{◌≡◌, ◌≢◌, ℕ, ◌^◌, ◌<◌, ◌≤◌, List, [], ◌∷◌, ◌++◌, length, true, refl, sym, arith, append_assoc}
 use Rattle.flight_value.specs.declared.graph.Flow.TheVariants.{Readable, Iterable, Iterator}
 use Rattle.flight_row.specs.declared.row.RowKind.{RowKind}
 use Rattle.flight_row.specs.declared.row.RowKind.TheVariants.{Model, Import, Error, Text, Open, Close}
 use Rattle.flight_row.specs.declared.row.Row.{Row}
 use Rattle.flight_row.specs.declared.tag.Tag.{Tag}
 use Rattle.flight_row.specs.declared.tag.Tag.TheVariants.{Sized, Line}
-use Rattle.flight_row.specs.Rows.{tag_of, IsHead, IsTagged, IsTextHead, IsLine, IsLineHead, IsLineRow, IsTextRow, IsRow, Spells, longest, is_one_line, begins_model}
+use Rattle.flight_row.specs.Rows.{tag_of, IsHead, IsTagged, IsLineHead, IsLineRow, IsTextRow, IsRow, Spells, longest, is_one_line, begins_model}
 use Rattle.flight_row.specs.Written.{hexadecimal, tag_bytes, payload_bytes, spelling_of, IsWritable}
 use Rattle.flight_row.proofs.Hexadecimal.{hexadecimal-IsNumber}
 

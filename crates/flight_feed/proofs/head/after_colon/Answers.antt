@@ -1,4 +1,4 @@
-use Rattle.std.proofs.Common.{◌≡◌, sym, ◌∙◌}
+use Rattle.std.proofs.Common.{sym, ◌∙◌}
 use Rattle.flight_feed.proofs.Heads.{begins_hint}
 use Rattle.flight_feed.proofs.head.after_colon.Goals as goal
 

@@ -1,4 +1,4 @@
-use Rattle.std.proofs.Common.{◌≡◌, refl, sym, ◌∙◌}
+use Rattle.std.proofs.Common.{refl, sym, ◌∙◌}
 use Rattle.flight_feed.proofs.Heads.{begins_length, begins_line}
 use Rattle.flight_feed.proofs.head.after_tag.Goals as goal
 

@@ -1,8 +1,7 @@
-use Rattle.std.proofs.Common.{◌≡◌, ◌≤◌, ◌<◌, ℕ, List, [], ◌∷◌, ◌+◌, ◌++◌, length, take, arith, refl, sym, subst, ◌∙◌, slice_index, inr}
+use Rattle.std.proofs.Common.{◌≡◌, ℕ, arith, refl, inr}
 use Rattle.flight_row.specs.declared.row.RowKind.TheVariants.{Text}
 use Rattle.flight_feed.specs.declared.begun.Coming.TheVariants.{Row}
-use Rattle.flight_feed.specs.Faults.{IsBad}
-use Rattle.flight_feed.specs.Begun.{Begins, item_of}
+use Rattle.flight_feed.specs.Begun.{item_of}
 use Rattle.flight_feed.proofs.Heads.{first_goes}
 use Rattle.flight_feed.proofs.Texts.{whole_head}
 use Rattle.flight_feed.proofs.head.head_byte.Goals as goal

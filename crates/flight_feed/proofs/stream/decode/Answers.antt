@@ -1,14 +1,13 @@
-use Rattle.std.proofs.Common.{◌≡◌, ◌≢◌, [], ◌+◌, ◌++◌, List, ℕ, take, drop, ap, sym, ◌∙◌, subst, arith, refl}
+use Rattle.std.proofs.Common.{◌≡◌, ◌≢◌, [], ◌+◌, ◌++◌, List, ℕ, take, drop, ap, sym, ◌∙◌, arith, refl}
 use Rattle.std.proofs.lemmas.Result.{err_from_is_err_and}
 use Rattle.std.proofs.lemmas.List.{take_all}
 use Rattle.std.specs.Prelude.{Ok, Err}
-use Rattle.flight_row.specs.Rows.{SpellAll}
 use Rattle.flight_feed.specs.declared.fault.FeedFault.TheVariants as Fault
 use Rattle.flight_feed.specs.declared.fault.FeedKind.TheVariants.{Cut}
-use Rattle.flight_feed.specs.Stream.{Advances, HasFault, text_of}
+use Rattle.flight_feed.specs.Stream.{text_of}
 use Rattle.flight_feed.proofs.Parts.{no_part}
 use Rattle.flight_feed.proofs.Runs.{advances_more}
-use Rattle.flight_feed.proofs.Pieces.{nothing_came, text_more, text_rest, refused_all, cut_all, whole_all, only_whole}
+use Rattle.flight_feed.proofs.Pieces.{nothing_came, text_more, text_rest, refused_all, cut_all, whole_all, only_whole, has_rows}
 use Rattle.flight_feed.proofs.stream.decode.Goals as goal
 
 pub loop-piece-init : goal.loop-piece-init
@@ -71,3 +70,11 @@ returns-clause-only c =
     let whole : text_of (take l.piece-index pieces) ≡ text_of pieces = ap text_of (take_all l.piece-index pieces (omega arith)) in
     let none : l.feed.bytes ≡ [] = (c.end.ensures.whole.0 c.in_ok-end.was).1 in
     only_whole (text_of pieces) l.rows.items (rw whole at (whole_all (text_of (take l.piece-index pieces)) l.feed.number l.rows.items l.feed.bytes l.invariant.rows none))
+
+pub returns-clause-stream : goal.returns-clause-stream
+returns-clause-stream c =
+    let l = c.loop-piece in
+    let pieces = c.args.pieces.now in
+    let whole : text_of (take l.piece-index pieces) ≡ text_of pieces = ap text_of (take_all l.piece-index pieces (omega arith)) in
+    let none : l.feed.bytes ≡ [] = (c.end.ensures.whole.0 c.in_ok-end.was).1 in
+    has_rows (text_of pieces) l.rows.items (rw whole at (whole_all (text_of (take l.piece-index pieces)) l.feed.number l.rows.items l.feed.bytes l.invariant.rows none))

@@ -1,9 +1,8 @@
-use Rattle.std.proofs.Common.{◌≡◌, ◌≤◌, ◌+◌, ◌-◌, ◌++◌, length, take, drop, arith, subst, sym, ap, append_assoc, length-drop}
+use Rattle.std.proofs.Common.{◌++◌, take, drop, arith, append_assoc, length-drop}
 use Rattle.std.proofs.lemmas.List.{take_rest}
 use Rattle.std.proofs.Math.Seq.{take-add}
 use Rattle.std.proofs.lemmas.Result.{err_from_is_err_and}
-use Rattle.flight_feed.specs.Begun.{IsBegun, GoesOn, Stops, bytes_of}
-use Rattle.flight_feed.specs.Stream.{Advances}
+use Rattle.flight_feed.specs.Begun.{bytes_of}
 use Rattle.flight_feed.proofs.Runs.{advance, stop}
 use Rattle.flight_feed.proofs.take.take_all.Goals as goal
 

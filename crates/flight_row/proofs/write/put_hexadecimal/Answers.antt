@@ -1,8 +1,7 @@
-use Rattle.std.proofs.Common.{◌≡◌, ◌≢◌, ◌+◌, ◌-◌, ◌*◌, ◌/◌, ◌%◌, ◌^◌, ◌<◌, ◌≤◌, ◌++◌, ◌∷◌, [], suc, ℕ, List, false, drop, length, arith, refl, sym, ◌∙◌, ap, subst, slice_set, drop_of_length-le}
+use Rattle.std.proofs.Common.{◌-◌, drop, arith, ◌∙◌, drop_of_length-le}
 use Rattle.std.proofs.lemmas.List.{length-set}
-use Rattle.std.specs.Fmt.{digits_onto, digit_glyph}
 use Rattle.flight_row.specs.Written.{hexadecimal}
-use Rattle.flight_row.proofs.Hexadecimal.{digits_onto-start, put_last, put_more, places_left}
+use Rattle.flight_row.proofs.Hexadecimal.{digits_onto-start, put_more, places_left}
 use Rattle.flight_row.proofs.write.put_hexadecimal.Goals as goal
 
 pub places-init : goal.places-init

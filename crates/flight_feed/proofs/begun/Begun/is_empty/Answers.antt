@@ -1,5 +1,4 @@
-use Rattle.std.proofs.Common.{◌≡◌, ℕ, ◌<◌, Bool, true, false, nat_eq, List, [], ◌∷◌, ◌++◌, length, vec_len, refl, sym, ◌∙◌, arith, eq-eqb, subst}
-use Rattle.std.proofs.lemmas.Bool.Decides.{nat_tests}
+use Rattle.std.proofs.Common.{◌≡◌, ℕ, true, false, List, [], ◌∷◌, ◌++◌, length, vec_len, refl, sym, ◌∙◌, arith, eq-eqb}
 use Rattle.flight_feed.proofs.begun.Begun.is_empty.Goals as goal
 
 front : (a b : List ℕ) → a ++ b ≡ [] → a ≡ []
