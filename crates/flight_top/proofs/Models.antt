@@ -1,5 +1,5 @@
 -- Nodes put where one stands, texts with no dollar in front, elements, and names in order.
-use Rattle.std.proofs.Common.{◌≡◌, ℕ, ◌+◌, ◌<◌, ◌≤◌, List, [], ◌∷◌, ◌++◌, length, map, slice_set, slice_index_or, refl, sym, ◌∙◌, ap, subst, append_assoc, append-nil, length-append, arith, ◌≢◌, ◌==◌, true, false, Bool, string_bytes, string_cmp, All}
+use Rattle.std.proofs.Common.{◌≡◌, ℕ, ◌+◌, ◌<◌, ◌≤◌, List, [], ◌∷◌, ◌++◌, length, map, slice_set, slice_index_or, refl, sym, ◌∙◌, ap, subst, append_assoc, append-nil, length-append, arith, ◌≢◌, ◌==◌, true, false, string_bytes, string_cmp}
 use Rattle.std.specs.Prelude.{Option, Some, None, MatchOption, IsSome, option_to_list, ◌↔◌, String, Result, Ok, Err, IfOk, ◌^◌}
 use Rattle.std.specs.Map.{keys_of}
 use Rattle.std.proofs.lemmas.Bool.{false≢true}
@@ -19,7 +19,7 @@ use Rattle.serde_json.specs.View.{view, items_view, members_view}
 use Rattle.serde_json.specs.declared.value.Value.{Value}
 use Rattle.flight_value.specs.declared.graph.Node.{Node}
 use Rattle.flight_value.specs.declared.graph.Node.TheVariants as node
-use Rattle.flight_top.specs.Model.{text_of, is_mark, is_key, is_marked, has_element_form, is_plain, is_array_plain, slot_at, nodes_at, array_node, array_nodes, member_props}
+use Rattle.flight_top.specs.Model.{text_of, is_mark, is_key, has_element_form, nodes_at, array_nodes, member_props}
 use Rattle.flight_top.specs.Fine.{three, behind}
 
 -- a node that is put where one stood, in front of what came behind it
@@ -98,23 +98,7 @@ long_form (a ∷ b ∷ c ∷ []) long = absurd (omega arith)
 long_form (a ∷ b ∷ c ∷ d ∷ []) long = absurd (omega arith)
 long_form (a ∷ b ∷ c ∷ d ∷ e ∷ xs) long = refl
 
--- a key of another kind has not the form
-pub bad_key : (m t k p : Data) → is_key k ≡ false → has_element_form (behind (item m (three t k p))) ≡ false
-bad_key m t k p h = h
-
--- marked items without the form are not plain
-pub not_element : (ds : Items) → is_marked ds ≡ true → has_element_form (behind ds) ≡ false → is_array_plain ds ≡ false
-not_element no_items marked unformed = absurd (false≢true marked)
-not_element (item m ds) marked unformed = rw (marked, unformed) refl
-
--- marked items are an element where the parts are plain
-pub element_plain : (m t k p : Data) → is_mark m ≡ true → is_key k ≡ true → is_plain t ≡ true → is_plain k ≡ true → is_plain p ≡ true → is_array_plain (item m (three t k p)) ≡ true
-element_plain m t k p marked key pt pk pp = rw (marked, key, pt, pk, pp) refl
-
-pub element_node : (n : ℕ) (m t k p : Data) → is_mark m ≡ true
-    → array_node n (item m (three t k p)) ≡ node.Element (slot_at n t) (slot_at (n + length (nodes_at n t)) k) (slot_at (n + length (nodes_at n t) + length (nodes_at (n + length (nodes_at n t)) k)) p)
-element_node n m t k p marked = rw marked refl
-
+-- the nodes of an element
 pub element_nodes : (n : ℕ) (m t k p : Data) → is_mark m ≡ true
     → array_nodes n (item m (three t k p)) ≡ nodes_at n t ++ (nodes_at (n + length (nodes_at n t)) k ++ (nodes_at (n + length (nodes_at n t) + length (nodes_at (n + length (nodes_at n t)) k)) p ++ []))
 element_nodes n m t k p marked = rw marked refl

@@ -1,5 +1,5 @@
 -- What the walk keeps of each node that it has finished; for private clauses.
-use Rattle.std.specs.Prelude.{ℕ, ◌^◌, ◌<◌, List, length, map}
+use Rattle.std.specs.Prelude.{◌^◌, ◌<◌, length, map}
 use Rattle.serde_json.specs.Data.{Data, Items, no_items, item}
 use Rattle.flight_value.specs.Graph.{slots_of, Ascend}
 use Rattle.flight_value.specs.declared.graph.Node.{Node}

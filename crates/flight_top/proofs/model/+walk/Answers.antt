@@ -1,18 +1,17 @@
-use Rattle.std.proofs.Common.{◌≡◌, ◌<◌, ◌≤◌, ◌+◌, ◌++◌, ◌∷◌, [], List, ℕ, map, length, slice_set, refl, sym, ◌∙◌, ap, subst, arith, rules, length-append, true, false, append-nil}
+use Rattle.std.proofs.Common.{◌≡◌, ◌+◌, ◌++◌, ◌∷◌, [], List, ℕ, map, length, refl, sym, ◌∙◌, ap, subst, rules, length-append, true, append-nil}
 use Rattle.std.specs.Ordering.{nat_cmp}
 use Rattle.std.specs.Cmp.Lexicographic.{slice_cmp}
 use Rattle.std.specs.List.Sorted.{IsStrictlySortedBy}
 use Rattle.std.specs.Map.{keys_of}
 use Rattle.serde_json.specs.View.{view, items_view, members_view}
-use Rattle.std.proofs.lemmas.Bool.{false_from_ne_true, false≢true}
+use Rattle.std.proofs.lemmas.Bool.{false≢true}
 use Rattle.serde_json.proofs.Views.{view-Array, view-Object}
-use Rattle.serde_json.specs.Data.{item}
-use Rattle.flight_value.specs.declared.graph.Node.TheVariants.{Object, Element}
-use Rattle.flight_top.specs.Model.{is_mark, is_key, is_marked, has_element_form, slot_at, nodes_at, array_node, array_nodes, member_nodes, member_props}
-use Rattle.flight_top.specs.Fine.{three, behind}
+use Rattle.flight_value.specs.declared.graph.Node.TheVariants.{Object}
+use Rattle.flight_top.specs.Model.{is_mark, is_marked, has_element_form, array_node, array_nodes, member_nodes, member_props}
+use Rattle.flight_top.specs.Fine.{behind}
 use Rattle.std.specs.Option.{IsSome}
 use Rattle.std.specs.Vec.Iter.{into_iter_items, into_iter_len}
-use Rattle.flight_top.proofs.Models.{filled, form_length, parts, all_there, not_element, element_plain, element_node, element_out, member_props-names, ascend-map, ascend_if_ok}
+use Rattle.flight_top.proofs.Models.{filled, form_length, parts, all_there, element_out, member_props-names, ascend-map, ascend_if_ok}
 use Rattle.flight_top.proofs.model.+walk.Goals as goal
 use Rattle.flight_top.proofs.model.+walk.Goals.{walk_array-in_default-via-in-Some+in-Some+in_default, walk_array-in_default-via-in-Some+in_default, walk_array-in_default-via-in_default}
 

@@ -1,8 +1,6 @@
-use Rattle.std.proofs.Common.{◌≡◌, ◌<◌, ◌^◌, length, sym, ◌∙◌, ap, ap₂, subst, All}
+use Rattle.std.proofs.Common.{◌≡◌, ◌<◌, ◌^◌, length, ◌∙◌, All}
 use Rattle.serde_json.specs.View.{view}
-use Rattle.flight_value.specs.Graph.{IsValid}
-use Rattle.flight_value.specs.declared.graph.Graph.{Graph}
-use Rattle.flight_top.specs.Model.{slot_at, nodes_at, graph_of}
+use Rattle.flight_top.specs.Model.{slot_at, nodes_at}
 use Rattle.flight_top.specs.Fine.{IsFine}
 use Rattle.flight_top.proofs.Valid.{graph_valid}
 use Rattle.flight_top.proofs.model.model_graph.Goals as goal
