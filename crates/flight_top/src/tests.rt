@@ -26,69 +26,68 @@ const ELEMENT: &str = "0:[\"$\",\"p\",null,{\"children\":\"hi\"}]\n";
 
 const ELEMENT_TEXT: &str = "root #0\n#0 element \"p\" null #1\n#1 object {\"children\":\"hi\"}\n";
 
+/// Whether `view` over this input gives this status and text.
+fn views(rt: &HostRuntime, input: &str, status: Status, text: &str) -> Result<bool, Fail> {
+    let view = words(rt, ["view"].as_slice())?;
+    let mut source = source(rt, input, [].as_slice())?;
+    let mut sink = sink(rt, [].as_slice())?;
+    let told = flight_alone(rt.alloc(), view.as_slice(), &mut source, &mut sink);
+    Ok(told.status == status && sink.held() == text.as_bytes())
+}
+
 #[test]
 fn views_one_row(rt: HostRuntime) -> Result<(), Fail> {
-    let view = words(&rt, ["view"].as_slice())?;
-    for (input, status, text) in [
-        (ELEMENT, Status::Done, ELEMENT_TEXT),
-        ("0:\"$$5\"\n", Status::Done, "root \"$5\"\n"),
-        (
-            "0:[{},{}]\n",
-            Status::Done,
-            "root #0\n#0 array [#1,#2]\n#1 object {}\n#2 object {}\n",
-        ),
-        ("", Status::Stream, "stream: no root\n"),
-        ("0:1.5\n", Status::Stream, "stream: not built\n"),
-        ("0:{\"a\":1", Status::Stream, "stream: not built\n"),
-        (
-            "0:[\"$\",\"p\",1,{}]\n",
-            Status::Stream,
-            "stream: not built\n",
-        ),
-    ] {
-        let mut source = source(&rt, input, [].as_slice())?;
-        let mut sink = sink(&rt, [].as_slice())?;
-        let told = flight_alone(rt.alloc(), view.as_slice(), &mut source, &mut sink);
-        assert!(rt; told.status == status, "{input}");
-        assert!(rt; sink.held() == text.as_bytes(), "{input}");
-    }
+    let two = "root #0\n#0 array [#1,#2]\n#1 object {}\n#2 object {}\n";
+    assert!(rt; views(&rt, ELEMENT, Status::Done, ELEMENT_TEXT)?);
+    assert!(rt; views(&rt, "0:\"$$5\"\n", Status::Done, "root \"$5\"\n")?);
+    assert!(rt; views(&rt, "0:[{},{}]\n", Status::Done, two)?);
+    assert!(rt; views(&rt, "", Status::Stream, "stream: no root\n")?);
+    assert!(rt; views(&rt, "0:1.5\n", Status::Stream, "stream: not built\n")?);
+    assert!(rt; views(&rt, "0:{\"a\":1", Status::Stream, "stream: not built\n")?);
     Ok(())
+}
+
+/// Whether `view` over an element gives this status and text where these calls fail.
+fn fails(
+    rt: &HostRuntime,
+    source_fails: &[u32],
+    sink_fails: &[u32],
+    status: Status,
+    text: &str,
+) -> Result<bool, Fail> {
+    let view = words(rt, ["view"].as_slice())?;
+    let mut source = source(rt, ELEMENT, source_fails)?;
+    let mut sink = sink(rt, sink_fails)?;
+    let told = flight_alone(rt.alloc(), view.as_slice(), &mut source, &mut sink);
+    Ok(told.status == status && sink.held() == text.as_bytes())
 }
 
 #[test]
 fn tells_failing_calls(rt: HostRuntime) -> Result<(), Fail> {
-    let view = words(&rt, ["view"].as_slice())?;
-    for (source_fails, sink_fails, status, text) in [
-        ([0].as_slice(), [].as_slice(), Status::Read, ""),
-        ([2].as_slice(), [].as_slice(), Status::Read, ""),
-        ([].as_slice(), [0].as_slice(), Status::Write, ""),
-        ([].as_slice(), [1].as_slice(), Status::Write, "root #0\n"),
-        ([].as_slice(), [8].as_slice(), Status::Write, ELEMENT_TEXT),
-        ([].as_slice(), [9].as_slice(), Status::Done, ELEMENT_TEXT),
-    ] {
-        let mut source = source(&rt, ELEMENT, source_fails)?;
-        let mut sink = sink(&rt, sink_fails)?;
-        let told = flight_alone(rt.alloc(), view.as_slice(), &mut source, &mut sink);
-        assert!(rt; told.status == status, "{status:?}");
-        assert!(rt; sink.held() == text.as_bytes(), "{status:?}");
-    }
+    let none = [].as_slice();
+    assert!(rt; fails(&rt, [0].as_slice(), none, Status::Read, "")?);
+    assert!(rt; fails(&rt, [2].as_slice(), none, Status::Read, "")?);
+    assert!(rt; fails(&rt, none, [0].as_slice(), Status::Write, "")?);
+    assert!(rt; fails(&rt, none, [1].as_slice(), Status::Write, "root #0\n")?);
+    assert!(rt; fails(&rt, none, [8].as_slice(), Status::Write, ELEMENT_TEXT)?);
+    assert!(rt; fails(&rt, none, [9].as_slice(), Status::Done, ELEMENT_TEXT)?);
     Ok(())
+}
+
+/// Whether other words give the usage line.
+fn refuses(rt: &HostRuntime, texts: &[&str]) -> Result<bool, Fail> {
+    let words = words(rt, texts)?;
+    let mut source = source(rt, ELEMENT, [0].as_slice())?;
+    let mut sink = sink(rt, [].as_slice())?;
+    let told = flight_alone(rt.alloc(), words.as_slice(), &mut source, &mut sink);
+    Ok(told.status.code() == 1 && sink.held() == b"usage: flight COMMAND [OPTIONS]\n".as_slice())
 }
 
 #[test]
 fn refuses_other_words(rt: HostRuntime) -> Result<(), Fail> {
-    for texts in [
-        [].as_slice(),
-        ["views"].as_slice(),
-        ["view", "x"].as_slice(),
-        ["--", "view"].as_slice(),
-    ] {
-        let words = words(&rt, texts)?;
-        let mut source = source(&rt, ELEMENT, [0].as_slice())?;
-        let mut sink = sink(&rt, [].as_slice())?;
-        let told = flight_alone(rt.alloc(), words.as_slice(), &mut source, &mut sink);
-        assert!(rt; told.status.code() == 1);
-        assert!(rt; sink.held() == b"usage: flight COMMAND [OPTIONS]\n".as_slice());
-    }
+    assert!(rt; refuses(&rt, [].as_slice())?);
+    assert!(rt; refuses(&rt, ["views"].as_slice())?);
+    assert!(rt; refuses(&rt, ["view", "x"].as_slice())?);
+    assert!(rt; refuses(&rt, ["--", "view"].as_slice())?);
     Ok(())
 }
