@@ -1,0 +1,3 @@
+pub mod Adding
+pub mod Walks
+pub mod Trees

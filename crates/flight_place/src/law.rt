@@ -1,0 +1,13 @@
+ghost use Rattle.std.specs.Prelude.{◌≡◌};
+ghost use Rattle.flight_row.specs.declared.row.Row.{Row};
+ghost use Rattle.flight_place.specs.declared.place.Manner.{Manner};
+ghost use Rattle.flight_place.specs.declared.place.PlaceTree.{PlaceTree};
+ghost use Rattle.flight_place.specs.declared.fault.PlaceKind.{PlaceKind};
+ghost use Rattle.flight_place.specs.Rows.{IsTree, IsRowFault};
+
+/// A row has one tree of places or one first fault, and never both.
+pub fn one_tree()
+    ensures trees { (manner : Manner) (row : Row) (t u : PlaceTree) → IsTree manner row t → IsTree manner row u → t ≡ u }
+    ensures faults { (manner : Manner) (row : Row) (j k : PlaceKind) → IsRowFault manner row j → IsRowFault manner row k → j ≡ k }
+    ensures apart { (manner : Manner) (row : Row) (t : PlaceTree) (k : PlaceKind) → IsTree manner row t → ¬ IsRowFault manner row k }
+{}

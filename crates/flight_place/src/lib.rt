@@ -1,0 +1,25 @@
+//! The payloads of Flight's rows as numbered places.
+//!
+//! A payload is JSON, and a walk over it visits a value before its items, items in order and properties by
+//! their bytes. Each value that is visited gets the next number, from 0, and is a [`Place`]: an atom, a
+//! composite that names the places in it, or a reference to another row. [`places`] gives the places of a row, or
+//! the first fault that the walk meets (React 19.0, `parseModel` and `parseModelString` of ReactFlightClient,
+//! read strictly). `specs/Places.antt` has what is visited at each number, and which places stand for that.
+//!
+//! Where a reference leads is no matter of this crate.
+#![tactic(auto)]
+
+mod fault;
+mod law;
+mod place;
+#[cfg(test)]
+mod tests;
+mod token;
+mod tree;
+mod walk;
+mod whole;
+
+pub use fault::{PlaceFault, PlaceKind};
+pub use law::one_tree;
+pub use place::{Manner, Named, Place, PlaceTree};
+pub use tree::places;

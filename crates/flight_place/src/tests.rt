@@ -1,0 +1,174 @@
+use crate::{Manner, Place, PlaceFault, PlaceKind, PlaceTree, one_tree, places};
+use flight_row::{Row, RowKind};
+use flight_value::{Flow, List};
+use std::test::Fail;
+
+/// The places of a row.
+fn tree(
+    rt: &HostRuntime,
+    kind: RowKind,
+    payload: &str,
+    manner: Manner,
+) -> Result<PlaceTree, PlaceFault> {
+    let payload = List::new(Vec::from_slice(rt.alloc(), payload.as_bytes())?);
+    places(
+        rt.alloc(),
+        &Row {
+            id: 0,
+            kind,
+            payload,
+        },
+        manner,
+    )
+}
+
+#[test]
+fn reads_rows(rt: HostRuntime) {
+    one_tree();
+    for (kind, payload, manner, count) in [
+        (RowKind::Model, "null", Manner::Wire, 1),
+        (RowKind::Model, r#"{"b":[1,-2],"a":"$$x"}"#, Manner::Wire, 5),
+        (
+            RowKind::Model,
+            r#"["$","p",null,{"x":"$L1"}]"#,
+            Manner::Wire,
+            6,
+        ),
+        (RowKind::Model, r#"["$","$L1","$$k","$S"]"#, Manner::Wire, 5),
+        (
+            RowKind::Model,
+            r#"["$$","$F1","$n1","$1:a"]"#,
+            Manner::Reply,
+            5,
+        ),
+        (RowKind::Model, r#"{"a":1.5,"a":[]}"#, Manner::Wire, 2),
+        (RowKind::Model, "-9007199254740991", Manner::Wire, 1),
+        (RowKind::Import, r#"[4707,[],"$L"]"#, Manner::Wire, 1),
+        (
+            RowKind::Error,
+            r#"{"digest":"no","n":1.5}"#,
+            Manner::Wire,
+            1,
+        ),
+        (RowKind::Text, "{", Manner::Wire, 1),
+        (RowKind::Open(Flow::Readable), "", Manner::Wire, 0),
+        (RowKind::Close, "", Manner::Wire, 1),
+        (RowKind::Close, "[1]", Manner::Wire, 2),
+    ] {
+        let told = tree(&rt, kind, payload, manner);
+        let found = matches!(&told, Ok(tree) if tree.places.as_slice().len() == count);
+        assert!(rt; found, "{payload}");
+    }
+}
+
+#[test]
+fn refuses_rows(rt: HostRuntime) {
+    for (kind, payload, manner, fault) in [
+        (RowKind::Model, "", Manner::Wire, PlaceKind::BadModel),
+        (RowKind::Model, "1e400", Manner::Wire, PlaceKind::BadModel),
+        (RowKind::Model, "1.0", Manner::Wire, PlaceKind::Number),
+        (RowKind::Model, "-0", Manner::Wire, PlaceKind::Number),
+        (
+            RowKind::Model,
+            "9007199254740992",
+            Manner::Wire,
+            PlaceKind::Number,
+        ),
+        (
+            RowKind::Model,
+            r#"["a","$"]"#,
+            Manner::Wire,
+            PlaceKind::BadToken { at: 2 },
+        ),
+        (
+            RowKind::Model,
+            r#"{"b":1.5,"a":"$L"}"#,
+            Manner::Wire,
+            PlaceKind::BadToken { at: 1 },
+        ),
+        (
+            RowKind::Model,
+            r#"["$","a",null]"#,
+            Manner::Wire,
+            PlaceKind::BadElement { at: 0 },
+        ),
+        (
+            RowKind::Model,
+            r#"["$",1.5,"$L1",{}]"#,
+            Manner::Wire,
+            PlaceKind::BadElement { at: 0 },
+        ),
+        (
+            RowKind::Model,
+            r#"["$",["$"],null,{}]"#,
+            Manner::Wire,
+            PlaceKind::BadElement { at: 2 },
+        ),
+        (
+            RowKind::Model,
+            r#"["$"]"#,
+            Manner::Reply,
+            PlaceKind::BadElement { at: 0 },
+        ),
+        (
+            RowKind::Model,
+            r#"["$",1.5,null,{}]"#,
+            Manner::Reply,
+            PlaceKind::BadToken { at: 1 },
+        ),
+        (
+            RowKind::Model,
+            r#""$L1""#,
+            Manner::Reply,
+            PlaceKind::BadToken { at: 0 },
+        ),
+        (
+            RowKind::Model,
+            r#""$h1""#,
+            Manner::Reply,
+            PlaceKind::BadToken { at: 0 },
+        ),
+        (
+            RowKind::Model,
+            r#""$Sx""#,
+            Manner::Reply,
+            PlaceKind::BadToken { at: 0 },
+        ),
+        (RowKind::Import, "[1.5]", Manner::Wire, PlaceKind::Number),
+        (
+            RowKind::Error,
+            r#"{"digest":1}"#,
+            Manner::Wire,
+            PlaceKind::BadModel,
+        ),
+        (
+            RowKind::Open(Flow::Iterator),
+            "1",
+            Manner::Wire,
+            PlaceKind::BadModel,
+        ),
+        (RowKind::Close, "{", Manner::Wire, PlaceKind::BadModel),
+    ] {
+        let told = tree(&rt, kind, payload, manner);
+        let found = matches!(&told, Err(PlaceFault::Fault(kind)) if *kind == fault);
+        assert!(rt; found, "{payload}");
+    }
+}
+
+/// Whether the root is an element with these places.
+fn is_element(places: &[Place], places_of: (u32, u32, u32)) -> bool {
+    match places.first() {
+        Some(Place::Element { tag, key, props }) => (*tag, *key, *props) == places_of,
+        _ => false,
+    }
+}
+
+#[test]
+fn numbers_an_element(rt: HostRuntime) -> Result<(), Fail> {
+    let payload = r#"["$",["a"],null,"$1:x"]"#;
+    match tree(&rt, RowKind::Model, payload, Manner::Wire) {
+        Ok(tree) => assert!(rt; is_element(tree.places.as_slice(), (2, 4, 5)), "{payload}"),
+        Err(_) => assert!(rt; false, "{payload}"),
+    }
+    Ok(())
+}

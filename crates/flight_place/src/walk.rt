@@ -1,0 +1,248 @@
+ghost use Rattle.std.specs.Prelude.{◌≡◌, ◌+◌, ◌++◌, ◌∷◌, [], ◌↔◌, ◌<◌, true, length, IfOk, IfErr, OnOk, IsTrue, slice_set, drop};
+ghost use Rattle.serde_json.specs.View.{view, items_view, members_view};
+ghost use Rattle.flight_place.specs.Places.{is_marked, is_key, mark_visit, count, item_count, member_count, item_numbers, member_numbers, visits, array_visits, marked_visits, object_visits, item_visits, member_visits, token};
+ghost use Rattle.flight_place.specs.Faults.{Refuses, Adds};
+
+use crate::fault::{PlaceFault, PlaceKind};
+use crate::place::{Manner, Named, Place};
+use crate::token::{is_dollar, is_text, mark_place, token_place};
+use crate::whole::whole;
+use flight_text::Mark;
+use flight_value::{Atom, List, Text};
+use serde_json::{Map, Value};
+use std::alloc::Global;
+
+/// Adds the places of a value, and gives the value's number.
+#[cycle(walk)]
+pub fn walk(
+    alloc: Global,
+    manner: Manner,
+    value: &Value,
+    out: &mut Vec<Place>,
+) -> Result<u32, PlaceFault>
+    ensures number { IfOk result (λ n. n ≡ length out.old.items) }
+    ensures adds { OnOk result (Adds manner out.old.items out.new.items (visits manner (length out.old.items) (view value.now))) }
+    ensures count { OnOk result (length out.new.items ≡ length out.old.items + count (view value.now)) }
+    ensures err { IfErr result (Refuses manner (visits manner (length out.old.items) (view value.now))) }
+{
+    match value {
+        Value::Null => push(out, Place::Atom(Atom::Null)),
+        Value::Bool(b) => push(out, Place::Atom(Atom::Bool(*b))),
+        Value::Number(number) => match whole(number) {
+            Some(z) => push(out, Place::Atom(Atom::Whole(z))),
+            None => Err(PlaceFault::Fault(PlaceKind::Number)),
+        },
+        Value::String(text) => push_token(alloc, manner, text.as_str(), out),
+        Value::Array(items) => {
+            if starts_with_mark(items) {
+                walk_element(alloc, manner, items, out)
+            } else {
+                walk_array(alloc, manner, items, out)
+            }
+        }
+        Value::Object(members) => walk_object(alloc, manner, members, out),
+    }
+}
+
+/// Adds the places of an array and its items.
+#[cycle(walk)]
+fn walk_array(
+    alloc: Global,
+    manner: Manner,
+    items: &[Value],
+    out: &mut Vec<Place>,
+) -> Result<u32, PlaceFault>
+    ensures number { IfOk result (λ n. n ≡ length out.old.items) }
+    ensures adds { OnOk result (Adds manner out.old.items out.new.items (array_visits manner (length out.old.items) (items_view items.now))) }
+    ensures count { OnOk result (length out.new.items ≡ length out.old.items + 1 + item_count (items_view items.now)) }
+    ensures err { IfErr result (Refuses manner (array_visits manner (length out.old.items) (items_view items.now))) }
+{
+    let number = push(out, unfinished(alloc))?;
+    let numbers = walk_items(alloc, manner, items, out)?;
+    put(out, number as usize, Place::Array(List::new(numbers)));
+    Ok(number)
+}
+
+/// Adds the places of an element, its mark and what stands behind it.
+#[cycle(walk)]
+fn walk_element(
+    alloc: Global,
+    manner: Manner,
+    items: &[Value],
+    out: &mut Vec<Place>,
+) -> Result<u32, PlaceFault>
+    requires { is_marked (items_view items.now) ≡ true }
+    ensures number { IfOk result (λ n. n ≡ length out.old.items) }
+    ensures adds { OnOk result (Adds manner out.old.items out.new.items (marked_visits manner (length out.old.items) (items_view items.now))) }
+    ensures count { OnOk result (length out.new.items ≡ length out.old.items + 1 + item_count (items_view items.now)) }
+    ensures err { IfErr result (Refuses manner (marked_visits manner (length out.old.items) (items_view items.now))) }
+{
+    match items {
+        [_, tag, key, props] if may_be_key(key) => {
+            let number = push(out, unfinished(alloc))?;
+            push_mark(alloc, manner, out)?;
+            let tag = walk(alloc, manner, tag, out)?;
+            let key = walk(alloc, manner, key, out)?;
+            let props = walk(alloc, manner, props, out)?;
+            put(out, number as usize, Place::Element { tag, key, props });
+            Ok(number)
+        }
+        _ => Err(PlaceFault::Fault(PlaceKind::BadElement {
+            at: next_number(out.as_slice())?,
+        })),
+    }
+}
+
+/// Adds the places of an object and its members.
+#[cycle(walk)]
+fn walk_object(
+    alloc: Global,
+    manner: Manner,
+    members: &Map<String, Value>,
+    out: &mut Vec<Place>,
+) -> Result<u32, PlaceFault>
+    ensures number { IfOk result (λ n. n ≡ length out.old.items) }
+    ensures adds { OnOk result (Adds manner out.old.items out.new.items (object_visits manner (length out.old.items) (members_view members.now.entries))) }
+    ensures count { OnOk result (length out.new.items ≡ length out.old.items + 1 + member_count (members_view members.now.entries)) }
+    ensures err { IfErr result (Refuses manner (object_visits manner (length out.old.items) (members_view members.now.entries))) }
+{
+    let number = push(out, unfinished(alloc))?;
+    let numbers = walk_members(alloc, manner, members, out)?;
+    put(out, number as usize, Place::Object(List::new(numbers)));
+    Ok(number)
+}
+
+/// Adds the places of items, and gives the items' numbers.
+#[cycle(walk)]
+fn walk_items(
+    alloc: Global,
+    manner: Manner,
+    items: &[Value],
+    out: &mut Vec<Place>,
+) -> Result<Vec<u32>, PlaceFault>
+    ensures adds { OnOk result (Adds manner out.old.items out.new.items (item_visits manner (length out.old.items) (items_view items.now))) }
+    ensures count { OnOk result (length out.new.items ≡ length out.old.items + item_count (items_view items.now)) }
+    ensures numbers { IfOk result (λ numbers. numbers.items ≡ item_numbers (length out.old.items) (items_view items.now)) }
+    ensures err { IfErr result (Refuses manner (item_visits manner (length out.old.items) (items_view items.now))) }
+{
+    let mut numbers = Vec::with_capacity(alloc, items.len())?;
+    for item in items {
+        numbers.push(walk(alloc, manner, item, out)?)?;
+    }
+    Ok(numbers)
+}
+
+/// Adds the places of members, and gives the properties with their numbers.
+#[cycle(walk)]
+fn walk_members(
+    alloc: Global,
+    manner: Manner,
+    members: &Map<String, Value>,
+    out: &mut Vec<Place>,
+) -> Result<Vec<Named>, PlaceFault>
+    ensures adds { OnOk result (Adds manner out.old.items out.new.items (member_visits manner (length out.old.items) (members_view members.now.entries))) }
+    ensures count { OnOk result (length out.new.items ≡ length out.old.items + member_count (members_view members.now.entries)) }
+    ensures numbers { IfOk result (λ numbers. numbers.items ≡ member_numbers (length out.old.items) (members_view members.now.entries)) }
+    ensures err { IfErr result (Refuses manner (member_visits manner (length out.old.items) (members_view members.now.entries))) }
+{
+    let mut numbers = Vec::with_capacity(alloc, members.len())?;
+    for (name, member) in members.iter() {
+        let name = Text::new(alloc, name.as_str())?;
+        let place = walk(alloc, manner, member, out)?;
+        numbers.push(Named { name, place })?;
+    }
+    Ok(numbers)
+}
+
+/// Whether items begin with the mark of an element.
+fn starts_with_mark(items: &[Value]) -> bool
+    ensures { IsTrue result ↔ (is_marked (items_view items.now) ≡ true) }
+{
+    match items {
+        [Value::String(mark), ..] => is_dollar(mark.as_str()),
+        _ => false,
+    }
+}
+
+/// Whether a value may be an element's key.
+fn may_be_key(value: &Value) -> bool
+    ensures { IsTrue result ↔ (is_key (view value.now) ≡ true) }
+{
+    match value {
+        Value::Null => true,
+        Value::String(text) => is_text(text.as_str()),
+        _ => false,
+    }
+}
+
+/// The next place's number. More places than numbers are answered as want of memory.
+fn next_number(out: &[Place]) -> Result<u32, PlaceFault>
+    ensures ok { IfOk result (λ n. n ≡ length out.now) }
+    ensures err { IfErr result (λ e. e ≡ PlaceFault.Memory) }
+{
+    match u32::try_from(out.len()) {
+        Ok(number) => Ok(number),
+        Err(_) => Err(PlaceFault::Memory),
+    }
+}
+
+/// A place that stands for one whose parts are not known yet.
+fn unfinished(alloc: Global) -> Place
+    ensures { result ≡ Place.Array [] }
+{
+    Place::Array(List::new(Vec::new(alloc)))
+}
+
+/// Adds a place, and gives its number.
+fn push(out: &mut Vec<Place>, place: Place) -> Result<u32, PlaceFault>
+    ensures number { IfOk result (λ n. n ≡ length out.old.items) }
+    ensures ok { OnOk result (out.new.items ≡ out.old.items ++ place ∷ []) }
+    ensures err { IfErr result (λ e. e ≡ PlaceFault.Memory) }
+{
+    let number = next_number(out.as_slice())?;
+    out.push(place)?;
+    Ok(number)
+}
+
+/// Adds the place of a string, and gives its number.
+fn push_token(
+    alloc: Global,
+    manner: Manner,
+    text: &str,
+    out: &mut Vec<Place>,
+) -> Result<u32, PlaceFault>
+    ensures number { IfOk result (λ n. n ≡ length out.old.items) }
+    ensures adds { OnOk result (Adds manner out.old.items out.new.items (token (length out.old.items) text.now ∷ [])) }
+    ensures count { OnOk result (length out.new.items ≡ length out.old.items + 1) }
+    ensures err { IfErr result (Refuses manner (token (length out.old.items) text.now ∷ [])) }
+{
+    let at = next_number(out.as_slice())?;
+    let place = token_place(alloc, manner, at, text)?;
+    push(out, place)
+}
+
+/// Adds what stands at the number of an element's mark.
+fn push_mark(alloc: Global, manner: Manner, out: &mut Vec<Place>) -> Result<(), PlaceFault>
+    ensures adds { OnOk result (Adds manner out.old.items out.new.items (mark_visit manner (length out.old.items) ∷ [])) }
+    ensures count { OnOk result (length out.new.items ≡ length out.old.items + 1) }
+    ensures err { IfErr result (Refuses manner (mark_visit manner (length out.old.items) ∷ [])) }
+{
+    match manner {
+        Manner::Wire => {
+            let place = mark_place(alloc, Mark::Element)?;
+            push(out, place)?;
+            Ok(())
+        }
+        Manner::Reply => Err(PlaceFault::Fault(PlaceKind::BadToken {
+            at: next_number(out.as_slice())?,
+        })),
+    }
+}
+
+/// Puts a place where one stands.
+fn put(out: &mut Vec<Place>, at: usize, place: Place)
+    requires { at < length out.old.items }
+    ensures { out.new.items ≡ slice_set out.old.items at place }
+{
+    out[at] = place;
+}
