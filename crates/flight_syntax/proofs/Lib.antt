@@ -7,4 +7,6 @@ pub mod Marks
 pub mod Strings
 pub mod Literals
 pub mod Readings
+pub mod Example
 pub mod Spellings
+pub mod Terms

@@ -1,3 +1,10 @@
+pub mod Names
 pub mod Pieces
+pub mod Scope
+pub mod Term
 pub mod Tokens
+pub mod Tree
+pub mod Words
+pub mod Derives
+pub mod Grammar
 pub mod Literal

@@ -5,7 +5,7 @@ ghost use Rattle.flight_syntax.specs.Pieces.{is_line_byte, is_space, begins_name
 use crate::token::TokenKind;
 
 /// What a text is made of.
-#[derive(Clone, Copy, Debug, PartialEq, Eq)]
+#[derive(Clone, Copy)]
 pub enum Piece {
     /// A space, a tab, a carriage return or a newline.
     Space,
@@ -16,7 +16,7 @@ pub enum Piece {
 }
 
 /// A piece at the front of a text, and how many bytes it has.
-#[derive(Clone, Copy, Debug)]
+#[derive(Clone, Copy)]
 pub struct Found {
     pub piece: Piece,
     pub len: usize,

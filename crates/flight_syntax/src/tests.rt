@@ -60,15 +60,17 @@ fn reads_tokens(rt: HostRuntime) -> Result<(), Fail> {
 
 #[test]
 fn gives_what_stands_at_a_token(rt: HostRuntime) -> Result<(), Fail> {
-    let text = "let 7 12n \"\\u0041\"".as_bytes();
+    let text = "let 7 12n \"\\u0041\" a App".as_bytes();
     assert!(rt; text.len() <= 1_048_576);
     let tokens = tokens(rt.alloc(), text)?;
-    assert!(rt; tokens.len() == 4);
+    assert!(rt; tokens.len() == 6);
     for token in tokens.as_slice() {
         match token.kind {
             TokenKind::Name => {
-                assert!(rt; token.is(text, "let"));
-                assert!(rt; token.name(rt.alloc(), text)?.as_str() == "let");
+                let name = token.name(rt.alloc(), text)?;
+                assert!(rt; token.is(text, name.as_str()));
+                assert!(rt; token.is_lower(text) == (name.as_str() == "a"));
+                assert!(rt; token.is_upper(text) == (name.as_str() == "App"));
             }
             TokenKind::Number => assert!(rt; token.number(text) == 7),
             TokenKind::Big => assert!(rt; token.big(text) == 12),

@@ -1,7 +1,9 @@
 ghost use Rattle.std.specs.Prelude.{ℕ, ◌≡◌, ◌↔◌, IsTrue, IfOk, pos};
 ghost use Rattle.flight_syntax.specs.Pieces.{IsNumber, IsBig, IsText};
 ghost use Rattle.flight_syntax.specs.Tokens.{IsTokenOf, spelling};
+ghost use Rattle.flight_syntax.specs.Names.{IsUpper, IsLower};
 
+use crate::name::{is_lower, is_upper};
 use crate::number::{MOST, MOST_BIG, number_of};
 use crate::string::string_of;
 use flight_value::{Memory, Text};
@@ -45,6 +47,22 @@ impl Token {
         ensures { IsTrue result ↔ (spelling text.now self.now ≡ word.now) }
     {
         self.bytes(text) == word.as_bytes()
+    }
+
+    /// Whether the token is an Upper name: it begins with a capital letter, and is no keyword.
+    pub fn is_upper(&self, text: &[u8]) -> bool
+        requires { IsTokenOf text.now self.now }
+        ensures { IsTrue result ↔ IsUpper text.now self.now }
+    {
+        self.kind == TokenKind::Name && is_upper(self.bytes(text))
+    }
+
+    /// Whether the token is a lower name: any other that is no keyword.
+    pub fn is_lower(&self, text: &[u8]) -> bool
+        requires { IsTokenOf text.now self.now }
+        ensures { IsTrue result ↔ IsLower text.now self.now }
+    {
+        self.kind == TokenKind::Name && is_lower(self.bytes(text))
     }
 
     /// The name that the token is.
