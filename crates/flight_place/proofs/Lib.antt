@@ -1,3 +1,5 @@
 pub mod Adding
 pub mod Walks
 pub mod Trees
+pub mod Within
+pub mod Ordered

@@ -1,4 +1,5 @@
 pub mod Tokens
 pub mod Places
 pub mod Faults
+pub mod Parts
 pub mod Rows

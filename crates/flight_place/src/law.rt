@@ -1,9 +1,20 @@
-ghost use Rattle.std.specs.Prelude.{◌≡◌};
+ghost use Rattle.std.specs.Prelude.{◌≡◌, All, length};
 ghost use Rattle.flight_row.specs.declared.row.Row.{Row};
 ghost use Rattle.flight_place.specs.declared.place.Manner.{Manner};
 ghost use Rattle.flight_place.specs.declared.place.PlaceTree.{PlaceTree};
 ghost use Rattle.flight_place.specs.declared.fault.PlaceKind.{PlaceKind};
+ghost use Rattle.flight_place.specs.Parts.{IsWithin, HasOrder};
 ghost use Rattle.flight_place.specs.Rows.{IsTree, IsRowFault};
+
+/// Each number in a place is that of a place of the same tree.
+pub fn numbers_lead_to_places()
+    ensures { (manner : Manner) (row : Row) (t : PlaceTree) → IsTree manner row t → All (IsWithin (length t.places)) t.places }
+{}
+
+/// The names of an object ascend by their bytes.
+pub fn names_ascend()
+    ensures { (manner : Manner) (row : Row) (t : PlaceTree) → IsTree manner row t → All HasOrder t.places }
+{}
 
 /// A row has one tree of places or one first fault, and never both.
 pub fn one_tree()

@@ -20,6 +20,6 @@ mod walk;
 mod whole;
 
 pub use fault::{PlaceFault, PlaceKind};
-pub use law::one_tree;
+pub use law::{names_ascend, numbers_lead_to_places, one_tree};
 pub use place::{Manner, Named, Place, PlaceTree};
 pub use tree::places;
