@@ -1,6 +1,6 @@
 -- The tokens that were read, by their bytes.
-use Rattle.std.proofs.Common.{◌≡◌, ℕ, zero, suc, ◌+◌, ◌-◌, ◌<◌, true, List, [], ◌∷◌, take, drop, get_or, sym, subst, arith, length-drop}
-use Rattle.std.specs.List.{list_all, All}
+use Rattle.std.proofs.Common.{◌≡◌, ℕ, zero, suc, ◌+◌, ◌-◌, ◌<◌, ◌≤◌, true, List, [], ◌∷◌, length, take, drop, get_or, sym, subst, arith, length-drop}
+use Rattle.std.specs.List.{list_all, All, AllPairs}
 use Rattle.std.specs.Str.{IsUtf8}
 use Rattle.std.proofs.lemmas.Bool.{and_parts, or_left, false≢true}
 use Rattle.std.proofs.lemmas.Bool.Decides.{nat_tests}
@@ -50,3 +50,20 @@ is_name-IsUtf8 [] h = absurd (false≢true h)
 is_name-IsUtf8 (b ∷ bs) h =
     let parts = and_parts (begins_name b) (list_all is_name_byte bs) h in
     IsUtf8-from_ascii (b ∷ bs) (names-small (b ∷ bs) (rw (or_left (begins_name b) _ parts.0) parts.1))
+
+-- what is read from a place on does not begin before it
+Reads-from : {text : List ℕ} {a b : ℕ} {ts : List declared.Token} → Reads text a ts b → (k : ℕ) (d : declared.Token) → k < length ts → a ≤ (get_or ts k d).from
+Reads-from nothing k d l = absurd (omega arith)
+Reads-from (space s r) k d l = let later = Reads-from r k d l in omega (arith, later)
+Reads-from (comment s r) k d l = let later = Reads-from r k d l in omega (arith, later)
+Reads-from (token s r) zero d l = omega arith
+Reads-from (token s r) (suc k) d l = let later = Reads-from r k d (omega arith) in omega (arith, later)
+
+-- each token ends before the later ones begin
+pub Reads-ascend : {text : List ℕ} {a b : ℕ} {ts : List declared.Token} → Reads text a ts b → AllPairs (λ t u. t.to ≤ u.from) ts
+Reads-ascend nothing i j d l m = absurd (omega arith)
+Reads-ascend (space s r) i j d l m = Reads-ascend r i j d l m
+Reads-ascend (comment s r) i j d l m = Reads-ascend r i j d l m
+Reads-ascend (token s r) i zero d l m = absurd (omega arith)
+Reads-ascend (token s r) zero (suc j) d l m = Reads-from r j d (omega arith)
+Reads-ascend (token s r) (suc i) (suc j) d l m = Reads-ascend r i j d (omega arith) (omega arith)

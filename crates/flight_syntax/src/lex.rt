@@ -1,5 +1,5 @@
 ghost use Rattle.std.specs.Prelude.{ℕ, List, ◌<◌, ◌≤◌, ◌≡◌, ◌≢◌, ◌+◌, ◌^◌, slice_index, IfOk, IfErr, length, drop};
-ghost use Rattle.std.specs.List.{All};
+ghost use Rattle.std.specs.List.{All, AllPairs};
 ghost use Rattle.std.specs.Str.{IsUtf8};
 ghost use Rattle.flight_syntax.specs.Pieces.{NothingStands, IsFound};
 ghost use Rattle.flight_syntax.specs.Tokens.{AreTokens, IsTokenOf, IsFaultOf, IsRefused, HasOneReading};
@@ -20,6 +20,7 @@ pub fn tokens(alloc: Global, bytes: &[u8]) -> Result<Vec<Token>, Lexed>
     requires within { length bytes.now ≤ 1048576 }
     ensures ok { IfOk result (λ tokens. AreTokens bytes.now tokens.items) }
     ensures each { IfOk result (λ tokens. All (IsTokenOf bytes.now) tokens.items) }
+    ensures ascend { IfOk result (λ tokens. AllPairs (λ first later. first.to ≤ later.from) tokens.items) }
     ensures fault { IfErr result (IsFaultOf bytes.now) }
 {
     let mut tokens = Vec::new(alloc);

@@ -1,6 +1,6 @@
 use Rattle.std.proofs.Common.{arith, length-drop}
 use Rattle.flight_syntax.specs.Tokens.{nothing}
-use Rattle.flight_syntax.proofs.Spellings.{Reads-each}
+use Rattle.flight_syntax.proofs.Spellings.{Reads-each, Reads-ascend}
 use Rattle.flight_syntax.proofs.Readings.{Reads-token, Reads-blank}
 use Rattle.flight_syntax.proofs.lex.tokens.Goals as goal
 
@@ -25,3 +25,6 @@ loop-at-preserved c =
 
 pub returns-clause-each : goal.returns-clause-each
 returns-clause-each c = Reads-each c.loop-at.invariant.before
+
+pub returns-clause-ascend : goal.returns-clause-ascend
+returns-clause-ascend c = Reads-ascend c.loop-at.invariant.before
