@@ -1,8 +1,16 @@
 use crate::{Marked, read_mark, spell_mark};
 use std::test::Fail;
 
+/// Whether a text is read as the mark so shown, and that mark written so.
+fn is_mark(rt: &HostRuntime, text: &str, shown: &str, written: &str) -> Result<bool, Fail> {
+    let mark = read_mark(rt.alloc(), text)?;
+    let line = format!(in rt.alloc(); "{mark:?}")?;
+    let out = spell_mark(rt.alloc(), &mark)?;
+    Ok(line.as_str() == shown && out.as_str() == written)
+}
+
 #[test]
-fn reads_and_writes_marks(rt: HostRuntime) -> Result<(), Fail> {
+fn reads_and_writes_texts_and_references(rt: HostRuntime) -> Result<(), Fail> {
     for (text, shown, written) in [
         ("", r#"Plain(Text { text: "" })"#, ""),
         ("a$", r#"Plain(Text { text: "a$" })"#, "a$"),
@@ -34,6 +42,15 @@ fn reads_and_writes_marks(rt: HostRuntime) -> Result<(), Fail> {
         ("$W0", "Set(Ref { id: 0, path: List { items: [] } })", "$W0"),
         ("$F1", "Action(1)", "$F1"),
         ("$h1", "Action(1)", "$F1"),
+    ] {
+        assert!(rt; is_mark(&rt, text, shown, written)?, "{text}");
+    }
+    Ok(())
+}
+
+#[test]
+fn reads_and_writes_atoms(rt: HostRuntime) -> Result<(), Fail> {
+    for (text, shown, written) in [
         (
             "$D2024-01-02T03:04:05.678Z",
             r#"Date(Text { text: "2024-01-02T03:04:05.678Z" })"#,
@@ -63,11 +80,7 @@ fn reads_and_writes_marks(rt: HostRuntime) -> Result<(), Fail> {
         ("$-Infinity", "Constant(MinusInfinity)", "$-Infinity"),
         ("$-0", "Constant(MinusZero)", "$-0"),
     ] {
-        let mark = read_mark(rt.alloc(), text)?;
-        let line = format!(in rt.alloc(); "{mark:?}")?;
-        assert!(rt; line.as_str() == shown, "{text}: {line}");
-        let out = spell_mark(rt.alloc(), &mark)?;
-        assert!(rt; out.as_str() == written, "{text}");
+        assert!(rt; is_mark(&rt, text, shown, written)?, "{text}");
     }
     Ok(())
 }
