@@ -3,3 +3,7 @@ pub mod Places
 pub mod Faults
 pub mod Parts
 pub mod Rows
+pub mod Linked
+pub mod Resolve
+pub mod Meaning
+pub mod Good

@@ -21,5 +21,5 @@ mod whole;
 
 pub use fault::{PlaceFault, PlaceKind};
 pub use law::{names_ascend, numbers_lead_to_places, one_tree};
-pub use place::{Manner, Named, Place, PlaceTree};
+pub use place::{Manner, Named, Place, PlaceTree, PlacedRow};
 pub use tree::places;

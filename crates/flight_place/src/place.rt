@@ -47,3 +47,11 @@ pub struct PlaceTree {
     pub kind: RowKind,
     pub places: List<Place>,
 }
+
+/// A row with its places. A list of them is all that linking knows of a stream.
+#[derive(Drop)]
+pub struct PlacedRow {
+    /// Below 2^31.
+    pub id: u32,
+    pub tree: PlaceTree,
+}
