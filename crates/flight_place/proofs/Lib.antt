@@ -3,3 +3,4 @@ pub mod Walks
 pub mod Trees
 pub mod Within
 pub mod Ordered
+pub mod Walking
