@@ -4,3 +4,4 @@ pub mod Trees
 pub mod Within
 pub mod Ordered
 pub mod Walking
+pub mod Paths
