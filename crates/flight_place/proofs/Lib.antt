@@ -5,3 +5,4 @@ pub mod Within
 pub mod Ordered
 pub mod Walking
 pub mod Paths
+pub mod OneMeaning
