@@ -6,3 +6,4 @@ pub mod Ordered
 pub mod Walking
 pub mod Paths
 pub mod OneMeaning
+pub mod MoreRows
