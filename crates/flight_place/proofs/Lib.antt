@@ -7,3 +7,4 @@ pub mod Walking
 pub mod Paths
 pub mod OneMeaning
 pub mod MoreRows
+pub mod MoreMeaning
