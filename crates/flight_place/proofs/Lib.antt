@@ -8,3 +8,4 @@ pub mod Paths
 pub mod OneMeaning
 pub mod MoreRows
 pub mod MoreMeaning
+pub mod PairsStay
