@@ -9,3 +9,4 @@ pub mod OneMeaning
 pub mod MoreRows
 pub mod MoreMeaning
 pub mod PairsStay
+mod Worked

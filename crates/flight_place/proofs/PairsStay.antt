@@ -7,7 +7,7 @@ use Rattle.flight_value.specs.Store as store
 use Rattle.flight_value.specs.Store.{Shape, Target, Store, TargetsFit, SlotsFit, NodesFit, Fits}
 use Rattle.flight_place.specs.declared.place.PlacedRow.{PlacedRow}
 use Rattle.flight_place.specs.Meaning.{Written, Identity, HasShape, pending, Leads, meaning}
-use Rattle.flight_place.specs.Lasting.{HasEnded, IsResolved, IsResolvedUnder}
+use Rattle.flight_place.specs.Lasting.{HasEnded, IsResolved, IsResolvedUnder, IsComplete}
 use Rattle.flight_place.proofs.OneMeaning.{leads_once, stands_once}
 use Rattle.flight_place.proofs.MoreMeaning.{leads-more, shape-more}
 
@@ -31,13 +31,9 @@ slots-more R h rows more (v ∷ vs) (w ∷ ws) resolved f =
 slots-more R h rows more [] (w ∷ ws) resolved f = absurd f
 slots-more R h rows more (v ∷ vs) [] resolved f = absurd f
 
--- a partner's node has ended, and its slots are resolved
-parts : {K : Type 0} (R : K → Identity → Type 0) (rows : List PlacedRow) (k : K) (l : Identity) (shape : Shape Written) → IsResolvedUnder R rows → R k l → HasShape rows l shape → HasEnded shape.label × All (IsResolved rows) shape.slots
-parts R rows k l shape resolved pair h = resolved.each k l shape pair h
-
 node-more : {K V : Type 0} (R : K → Identity → Type 0) (h : Store K V) (rows more : List PlacedRow) → IsResolvedUnder R rows → (k : K) (l : Identity) → R k l → NodesFit R h (meaning rows) k l → NodesFit R h (meaning (rows ++ more)) k l
 node-more R h rows more resolved k l pair f =
-    let p = parts R rows k l f.there resolved pair f.is_there in
+    let p = resolved.each k l f.there pair f.is_there in
     record {
       here = f.here;
       there = f.there;
@@ -56,12 +52,7 @@ fits-more R h rows more resolved f =
       each = λ k l pair. node-more R h rows more resolved k l pair (f.each k l pair);
     }
 
--- ---- resolved, by the other side of the pairs
-
--- no slot leads to what is pending, and no stream goes on
-pub record IsComplete {K V : Type 0} (h : Store K V) : Type 0 where
-  pub root : ¬ (h.leads h.root (store.atom atom.Pending))
-  pub each : (k : K) (shape : Shape V) → h.at k shape → HasEnded shape.label × All (λ v. ¬ (h.leads v (store.atom atom.Pending))) shape.slots
+-- ---- what is resolved, by the other side of the pairs
 
 sure_target : {K L : Type 0} (R : K → L → Type 0) (x : Target K) (y : Target L) → TargetsFit R x y → y ≡ store.atom atom.Pending → x ≡ store.atom atom.Pending
 sure_target R (store.atom a) y f e = ap (λ b. store.atom b) (subst (TargetsFit R (store.atom a)) e f)
