@@ -13,6 +13,8 @@ use Rattle.flight_place.specs.declared.place.PlaceTree.{PlaceTree}
 use Rattle.flight_place.specs.declared.place.PlacedRow.{PlacedRow}
 use Rattle.flight_place.specs.Linked.{is_of, rows_of, Standing, Verdict, goes, refused, next, after, standing_of, FollowOn, Spot, place_at, first_place, beside}
 use Rattle.flight_place.specs.Resolve.{Path, step, Stand, to, here, Found, found, stream, not_yet, nowhere, Turn, on, ends, end_at_stream, enter, go_to, go_down, go_on, go_from, turn, after_turn, walk_by, Ends, Endless, LeadsNowhere, IsEnd, ComesToAnEnd}
+pub use Rattle.flight_place.specs.Linked.{HasRowOf}
+pub use Rattle.flight_place.specs.Resolve.{IsThere}
 use Rattle.flight_place.proofs.Walking.{ends_back, ends_forth, endless_back, endless_forth, ends_alike, endless_alike, turn_ends}
 
 -- ---- the rows of an id
@@ -61,10 +63,6 @@ slice_get-front [] ys n x h = absurd (none-some x h)
 slice_get-front (z ∷ zs) ys zero x h = h
 slice_get-front (z ∷ zs) ys (suc n) x h = slice_get-front zs ys n x h
 
--- the row of the place is there
-abbrev pub HasRowOf : List PlacedRow → Spot → Type 0
-HasRowOf rows s = (t : PlaceTree) × (slice_get (rows_of s.id rows) s.nth ≡ Some t)
-
 pub row-more : (rows more : List PlacedRow) (s : Spot) (t : PlaceTree) → slice_get (rows_of s.id rows) s.nth ≡ Some t → slice_get (rows_of s.id (rows ++ more)) s.nth ≡ Some t
 row-more rows more s t e = ap (λ ts. slice_get ts s.nth) (rows_of-append s.id rows more) ∙ slice_get-front (rows_of s.id rows) (rows_of s.id more) s.nth t e
 
@@ -84,11 +82,6 @@ pub place-more : (rows more : List PlacedRow) (s : Spot) (at : Place) → place_
 place-more rows more s at e = places-stay rows more s (place_row rows s at e) ∙ e
 
 -- ---- a turn over more rows
-
--- the row in which the walk stands is there
-abbrev pub IsThere : List PlacedRow → Stand → Type 0
-IsThere rows (to id path) = Unit {0}
-IsThere rows (here s path) = HasRowOf rows s
 
 -- the turn over more rows, by the turn over fewer: the same, but where no row was
 abbrev pub TurnsOn : List PlacedRow → Type 0 → Turn → Turn → Type 0

@@ -1,15 +1,30 @@
 -- What of the meaning of rows stays whatever rows follow.
-use Rattle.std.specs.Prelude.{ℕ, ◌≢◌, List, All}
+use Rattle.std.specs.Prelude.{ℕ, ◌≢◌, List, [], All, Option, Some}
 use Rattle.flight_value.specs.declared.graph.Atom.TheVariants as atom
 use Rattle.flight_value.specs.Store as store
 use Rattle.flight_value.specs.Store.{Label, Shape, Target, Store}
+use Rattle.flight_place.specs.declared.place.Place.{Place}
+use Rattle.flight_place.specs.declared.place.Place.TheVariants as place
 use Rattle.flight_place.specs.declared.place.PlacedRow.{PlacedRow}
-use Rattle.flight_place.specs.Meaning.{Written, Identity, HasShape, Leads, pending, value_of}
+use Rattle.flight_place.specs.Linked.{rows_of, Spot, place_at}
+use Rattle.flight_place.specs.Resolve.{to, found, Ends, IsThere, WaitsForNone}
+use Rattle.flight_place.specs.Meaning.{Written, Identity, HasShape, Leads, pending, value_of, stand_of}
 
 -- the node is no stream that still goes on
 abbrev pub HasEnded : Label → Type 0
 HasEnded (store.stream flow store.flowing) = ⊥
 HasEnded label = Unit {0}
+
+-- what stands at a place waits for no row: of a Map and of a Set the reference, of a server reference its row
+abbrev pub IsSettledHere : List PlacedRow → Option Place → Type 0
+IsSettledHere rows (Some (place.Map reference)) = WaitsForNone rows (to reference.id reference.path)
+IsSettledHere rows (Some (place.Set reference)) = WaitsForNone rows (to reference.id reference.path)
+IsSettledHere rows (Some (place.Action id)) = rows_of id rows ≢ []
+IsSettledHere rows at = Unit {0}
+
+-- where the slot leads is settled: neither its walk waits for a row, nor what stands where it ends
+abbrev pub IsSettled : List PlacedRow → Written → Type 0
+IsSettled rows w = IsThere rows (stand_of w) × WaitsForNone rows (stand_of w) × ((s : Spot) → Ends rows (stand_of w) (found s) → IsSettledHere rows (place_at rows s))
 
 -- the slot leads to something that is there
 abbrev pub IsResolved : List PlacedRow → Written → Type 0

@@ -85,3 +85,7 @@ first_place id = record { id = id; nth = 0; at = 0 }
 -- another place of the same row
 abbrev pub beside : Spot → ℕ → Spot
 beside s at = record { id = s.id; nth = s.nth; at = at }
+
+-- the row of the place is there
+abbrev pub HasRowOf : List PlacedRow → Spot → Type 0
+HasRowOf rows s = (t : PlaceTree) × (slice_get (rows_of s.id rows) s.nth ≡ Some t)

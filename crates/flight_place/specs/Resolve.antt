@@ -11,7 +11,7 @@ use Rattle.flight_place.specs.declared.place.Place.TheVariants as place
 use Rattle.flight_place.specs.declared.place.Named.{Named}
 use Rattle.flight_place.specs.declared.place.PlaceTree.{PlaceTree}
 use Rattle.flight_place.specs.declared.place.PlacedRow.{PlacedRow}
-use Rattle.flight_place.specs.Linked.{rows_of, Spot, place_at, first_place, beside}
+use Rattle.flight_place.specs.Linked.{rows_of, Spot, place_at, first_place, beside, HasRowOf}
 
 -- the names of steps
 abbrev pub Path : Type 0
@@ -141,3 +141,12 @@ IsStop at = Unit {0}
 
 abbrev pub StopsAt : List PlacedRow → Spot → Type 0
 StopsAt rows s = (at : Place) × (place_at rows s ≡ Some at) × IsStop at
+
+-- the row in which the walk stands is there
+abbrev pub IsThere : List PlacedRow → Stand → Type 0
+IsThere rows (to id path) = Unit {0}
+IsThere rows (here s path) = HasRowOf rows s
+
+-- the walk waits for no row: it ends otherwise, or never
+abbrev pub WaitsForNone : List PlacedRow → Stand → Type 0
+WaitsForNone rows s = (id : ℕ) (path : Path) → ¬ (Ends rows s (not_yet id path))
