@@ -1,5 +1,5 @@
 -- What rows mean stays when rows are added, where it was resolved.
-use Rattle.std.proofs.Common.{◌≡◌, ◌≢◌, ℕ, zero, suc, ◌+◌, add-zero, length, arith, append-nil, append_assoc, ◌⊎◌, inl, inr, Bool, true, false, is_some, if◌then◌else◌, List, [], ◌∷◌, ◌++◌, codes, Option, Some, None, option_and_then, slice_get, refl, sym, ap, ◌∙◌, subst}
+use Rattle.std.proofs.Common.{◌≡◌, ◌≢◌, ℕ, suc, ◌+◌, add-zero, length, arith, append-nil, append_assoc, inl, inr, Bool, is_some, if◌then◌else◌, List, [], ◌∷◌, ◌++◌, codes, Option, Some, None, option_and_then, slice_get, refl, sym, ap, ◌∙◌, subst}
 use Rattle.std.proofs.lemmas.Option.{none-some, same_Some}
 use Rattle.flight_value.specs.declared.graph.Atom.TheVariants as atom
 use Rattle.flight_value.specs.declared.graph.Flow.{Flow}
@@ -10,16 +10,14 @@ use Rattle.flight_row.specs.declared.row.RowKind.{RowKind}
 use Rattle.flight_row.specs.declared.row.RowKind.TheVariants as row
 use Rattle.flight_place.specs.declared.place.Place.{Place}
 use Rattle.flight_place.specs.declared.place.Place.TheVariants as place
-use Rattle.flight_place.specs.declared.place.Named.{Named}
 use Rattle.flight_place.specs.declared.place.PlaceTree.{PlaceTree}
 use Rattle.flight_place.specs.declared.place.PlacedRow.{PlacedRow}
 use Rattle.flight_place.specs.Linked.{rows_of, Spot, place_at, first_place, beside}
-use Rattle.flight_place.specs.Resolve.{property, to, here, Found, found, stream, not_yet, nowhere, Ends, Endless}
-use Rattle.flight_place.specs.Meaning.{Written, Identity, made_at, promise_of, stream_of, action_of, Token, token_label, map_token, set_token, entry, both, entries, at_places, slots_in, slots_found, HasSlots, FailsWith, Reference, text_at, bound_at, reference_with, there, reference_in, reference_by, reference_of, FlowEnd, flowing, closed_with, broken_by, Flowed, with_row, flowed, state_of, final_slots, node_here, HasTokenShape, HasShapeHere, opened, stream_shape, action_shape, HasShape, pending, TokenLeads, LeadsHere, IsTarget, stand_of, Leads}
+use Rattle.flight_place.specs.Resolve.{property, to, Found, found, stream, not_yet, nowhere}
+use Rattle.flight_place.specs.Meaning.{Written, Identity, made_at, promise_of, stream_of, action_of, Token, map_token, set_token, entry, both, entries, slots_in, HasSlots, FailsWith, Reference, text_at, bound_at, reference_with, there, reference_in, reference_by, reference_of, FlowEnd, flowing, closed_with, broken_by, Flowed, with_row, flowed, state_of, final_slots, HasShapeHere, opened, stream_shape, action_shape, HasShape, pending, TokenLeads, LeadsHere, IsTarget, stand_of, Leads}
 use Rattle.flight_place.specs.Good.{IsTokenDefined, IsDefined, IsHeld}
-use Rattle.flight_place.specs.Lasting.{HasEnded}
-use Rattle.flight_place.proofs.Walking.{found_stops, StopsAt}
-use Rattle.flight_place.proofs.MoreRows.{rows_of-append, rows_of-first, place-more, end-more, comes-more}
+use Rattle.flight_place.specs.Lasting.{HasEnded, HasGrown}
+use Rattle.flight_place.proofs.MoreRows.{rows_of-first, place-more, end-more, comes-more}
 
 -- ---- Maps and Sets
 
@@ -58,6 +56,7 @@ slots-more rows more token r slots (found s, w, h) = (found s, end-more rows mor
     none : (t : Token) → slots_in t rows s None ≡ Some slots → None ≡ Some slots
     none map_token h = h
     none set_token h = h
+
     go : (o : Option Place) → place_at rows s ≡ o → slots_in token rows s o ≡ Some slots → slots_in token (rows ++ more) s (place_at (rows ++ more) s) ≡ Some slots
     go None e h = absurd (none-some slots (none token h))
     go (Some at) e h = ap (slots_in token (rows ++ more) s) (place-more rows more s at e) ∙ slots_in-more token rows more s (Some at) slots h
@@ -142,6 +141,7 @@ opened-more (row.Open flow) a b shape same h ended = ap (opened (row.Open flow))
   where
     label : HasEnded (store.stream flow (state_of a.end))
     label = subst (λ (z : Shape Written). HasEnded z.label) (sym (same_Some _ shape h)) ended
+
     over : (e : FlowEnd) → HasEnded (store.stream flow (state_of e)) → IsOver e
     over flowing x = absurd x
     over (closed_with final) x = tt
@@ -256,7 +256,7 @@ pub flowed-append : (id n : ℕ) (ts us : List PlaceTree) → (flowed id n ts).e
 flowed-append id n [] us still = ap (λ k. flowed id k us) (sym (add-zero n))
 flowed-append id n (t ∷ ts) us still =
     subst (λ k. flowed id n (t ∷ (ts ++ us)) ≡ joined (flowed id n (t ∷ ts)) (flowed id k us)) count
-      (row-joined id n t.kind t (flowed id (suc n) ts) (flowed id (suc n + length ts) us) (flowed id (suc n) (ts ++ us)) (flowed-append id (suc n) ts us) still)
+    (row-joined id n t.kind t (flowed id (suc n) ts) (flowed id (suc n + length ts) us) (flowed id (suc n) (ts ++ us)) (flowed-append id (suc n) ts us) still)
   where
     count : suc n + length ts ≡ n + length (t ∷ ts)
     count = omega arith
@@ -276,10 +276,6 @@ opened_parts row.Error a flow state slots h = absurd (none-some _ h)
 opened_parts row.Text a flow state slots h = absurd (none-some _ h)
 opened_parts row.Close a flow state slots h = absurd (none-some _ h)
 
--- the shape of a stream, with more slots behind its own
-abbrev pub HasGrown : List PlacedRow → ℕ → Flow → List Written → Type 0
-HasGrown rows id flow slots = (now : FlowState) × (rest : List Written) × HasShape rows (stream_of id) (record { label = store.stream flow now; slots = slots ++ rest })
-
 grown-by : (kind : RowKind) (a b c : Flowed) (flow : Flow) (slots : List Written) → kind ≡ row.Open flow → c ≡ joined a b → a.end ≡ flowing → a.items ++ final_slots a.end ≡ slots
     → opened kind c ≡ Some (record { label = store.stream flow (state_of b.end); slots = slots ++ (b.items ++ final_slots b.end) })
 grown-by kind a b c flow slots is_open is_joined still is_slots =
@@ -293,13 +289,18 @@ stream-grows rows more id flow state slots h = go (rows_of id rows) refl h
   where
     over : HasEnded (store.stream flow state) → HasGrown (rows ++ more) id flow slots
     over e = (state, [], subst (λ z. HasShape (rows ++ more) (stream_of id) (record { label = store.stream flow state; slots = z })) (sym (append-nil slots)) (shape-more rows more (stream_of id) (record { label = store.stream flow state; slots = slots }) e h))
+
     by_end : (t : PlaceTree) (ts : List PlaceTree) → rows_of id rows ≡ t ∷ ts → t.kind ≡ row.Open flow → (e : FlowEnd) → (flowed id 1 ts).end ≡ e → state_of e ≡ state → (flowed id 1 ts).items ++ final_slots (flowed id 1 ts).end ≡ slots → HasGrown (rows ++ more) id flow slots
     by_end t ts first is_open flowing is_end is_state is_slots =
-        let b = flowed id (1 + length ts) (rows_of id more) in
-        (state_of b.end, b.items ++ final_slots b.end, ap (stream_shape id) (rows_of-first id rows more t ts first)
-          ∙ grown-by t.kind (flowed id 1 ts) b (flowed id 1 (ts ++ rows_of id more)) flow slots is_open (flowed-append id 1 ts (rows_of id more) is_end) is_end is_slots)
+        let b = flowed id (1 + length ts) (rows_of id more) in (
+          state_of b.end,
+          b.items ++ final_slots b.end,
+          ap (stream_shape id) (rows_of-first id rows more t ts first)
+              ∙ grown-by t.kind (flowed id 1 ts) b (flowed id 1 (ts ++ rows_of id more)) flow slots is_open (flowed-append id 1 ts (rows_of id more) is_end) is_end is_slots,
+        )
     by_end t ts first is_open (closed_with final) is_end is_state is_slots = over (subst (λ z. HasEnded (store.stream flow z)) is_state tt)
     by_end t ts first is_open (broken_by digest) is_end is_state is_slots = over (subst (λ z. HasEnded (store.stream flow z)) is_state tt)
+
     go : (ts : List PlaceTree) → rows_of id rows ≡ ts → stream_shape id ts ≡ Some (record { label = store.stream flow state; slots = slots }) → HasGrown (rows ++ more) id flow slots
     go [] first h = absurd (none-some _ h)
     go (t ∷ ts) first h =

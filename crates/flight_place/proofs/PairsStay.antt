@@ -1,12 +1,12 @@
 -- Pairs for the meaning of rows stay pairs for it when rows are added, where they speak of what was resolved.
-use Rattle.std.proofs.Common.{◌≡◌, ◌≢◌, ℕ, List, [], ◌∷◌, ◌++◌, refl, sym, ap, ◌∙◌, subst, All}
+use Rattle.std.proofs.Common.{◌≡◌, ◌≢◌, List, [], ◌∷◌, ◌++◌, ap, subst, All}
 use Rattle.std.proofs.lemmas.List.Elements.{All-nil, All-cons, All-head, All-tail}
 use Rattle.std.specs.List.{AllZip}
 use Rattle.flight_value.specs.declared.graph.Atom.TheVariants as atom
 use Rattle.flight_value.specs.Store as store
 use Rattle.flight_value.specs.Store.{Shape, Target, Store, TargetsFit, SlotsFit, NodesFit, Fits}
 use Rattle.flight_place.specs.declared.place.PlacedRow.{PlacedRow}
-use Rattle.flight_place.specs.Meaning.{Written, Identity, HasShape, pending, Leads, meaning}
+use Rattle.flight_place.specs.Meaning.{Written, Identity, pending, Leads, meaning}
 use Rattle.flight_place.specs.Lasting.{HasEnded, IsResolved, IsResolvedUnder, IsComplete}
 use Rattle.flight_place.proofs.OneMeaning.{leads_once, stands_once}
 use Rattle.flight_place.proofs.MoreMeaning.{leads-more, shape-more}
@@ -66,7 +66,7 @@ sure_slots : {K V : Type 0} (R : K → Identity → Type 0) (h : Store K V) (row
 sure_slots R h rows [] [] sure f = All-nil (IsResolved rows)
 sure_slots R h rows (v ∷ vs) (w ∷ ws) sure f =
     All-cons (IsResolved rows) w ws (sure_slot R h rows v w (All-head (λ v. ¬ (h.leads v (store.atom atom.Pending))) v vs sure) f.0)
-      (sure_slots R h rows vs ws (All-tail (λ v. ¬ (h.leads v (store.atom atom.Pending))) v vs sure) f.1)
+    (sure_slots R h rows vs ws (All-tail (λ v. ¬ (h.leads v (store.atom atom.Pending))) v vs sure) f.1)
 sure_slots R h rows [] (w ∷ ws) sure f = absurd f
 sure_slots R h rows (v ∷ vs) [] sure f = absurd f
 

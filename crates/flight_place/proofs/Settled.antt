@@ -1,7 +1,6 @@
 -- What waits for no row never changes: a walk over more rows, back to fewer, and targets that are settled, pending ones too.
 use Rattle.std.proofs.Common.{◌≡◌, ◌≢◌, ℕ, zero, suc, ◌≤◌, ◌⊎◌, inl, inr, is_some, if◌then◌else◌, List, [], ◌∷◌, ◌++◌, arith, codes, Option, Some, None, option_and_then, slice_get, refl, sym, ap, ◌∙◌, subst}
-use Rattle.std.proofs.lemmas.Option.{none-some, same_Some}
-use Rattle.flight_value.specs.declared.graph.Atom.TheVariants as atom
+use Rattle.std.proofs.lemmas.Option.{none-some}
 use Rattle.flight_value.specs.Store as store
 use Rattle.flight_value.specs.Store.{Target}
 use Rattle.flight_text.specs.declared.mark.Ref.{Ref}
@@ -12,10 +11,10 @@ use Rattle.flight_place.specs.declared.place.Place.TheVariants as place
 use Rattle.flight_place.specs.declared.place.PlaceTree.{PlaceTree}
 use Rattle.flight_place.specs.declared.place.PlacedRow.{PlacedRow}
 use Rattle.flight_place.specs.Linked.{rows_of, Spot, place_at, first_place, beside, HasRowOf}
-use Rattle.flight_place.specs.Resolve.{property, Path, Stand, to, here, Found, found, stream, not_yet, nowhere, Turn, on, ends, turn, after_turn, walk_by, Ends, Endless, IsThere, WaitsForNone}
-use Rattle.flight_place.specs.Meaning.{Written, Identity, action_of, Token, map_token, set_token, entry, both, entries, slots_in, slots_found, HasSlots, FailsWith, text_at, bound_at, reference_with, there, reference_in, reference_by, reference_of, pending, TokenLeads, LeadsHere, stand_of, Leads}
+use Rattle.flight_place.specs.Resolve.{property, Path, Stand, to, Found, found, stream, not_yet, nowhere, Turn, on, ends, turn, after_turn, walk_by, Ends, IsThere, WaitsForNone}
+use Rattle.flight_place.specs.Meaning.{Written, Identity, action_of, Token, map_token, set_token, entry, both, entries, slots_in, HasSlots, FailsWith, text_at, bound_at, reference_with, there, reference_in, reference_by, reference_of, pending, TokenLeads, LeadsHere, stand_of, Leads}
 use Rattle.flight_place.specs.Lasting.{IsSettledHere, IsSettled}
-use Rattle.flight_place.proofs.Walking.{turn_back, turn_ends, found_stops}
+use Rattle.flight_place.proofs.Walking.{turn_back, found_stops}
 use Rattle.flight_place.proofs.MoreRows.{rows_of-first, place_row, places-stay, IsThereBy, there_turn, TurnsOn, turn-more, end-more, nowhere-more, endless-more}
 use Rattle.flight_place.proofs.MoreMeaning.{slots-more, failure-more}
 
@@ -32,12 +31,14 @@ back_by (suc n) rows more s f is h = go (turn rows s) refl (there_turn rows s is
   where
     ended : (e : Found) → turn rows s ≡ ends e → turn (rows ++ more) s ≡ ends e → walk_by (suc n) rows s ≡ Some f
     ended e is turns = ap (after_turn (walk_by n rows)) is ∙ (sym (ap (after_turn (walk_by n (rows ++ more))) turns) ∙ h)
+
     later : (t : Stand) → turn rows s ≡ on t → (walk_by n rows t ≡ Some f) ⊎ WaitsWithin n rows t → (walk_by (suc n) rows s ≡ Some f) ⊎ WaitsWithin (suc n) rows s
     later t e (inl w) = inl (turn_back rows s t e n f w)
     later t e (inr w) =
         let most : w.2 ≤ n = w.3 in
         let within : suc w.2 ≤ suc n = omega (arith, most) in
         inr (w.0, w.1, suc w.2, within, turn_back rows s t e w.2 (not_yet w.0 w.1) w.4)
+
     go : (t : Turn) → turn rows s ≡ t → IsThereBy rows t → TurnsOn (rows ++ more) (IsThere rows s) t (turn (rows ++ more) s)
         → ((t : Stand) → IsThere rows t → walk_by n (rows ++ more) t ≡ Some f → (walk_by n rows t ≡ Some f) ⊎ WaitsWithin n rows t) → (walk_by (suc n) rows s ≡ Some f) ⊎ WaitsWithin (suc n) rows s
     go (on t) e there turns rest = later t e (rest t there (sym (ap (after_turn (walk_by n (rows ++ more))) turns) ∙ h))
@@ -141,8 +142,11 @@ here-stays rows more s (Some at) x none h = h
 pub settled-stays : (rows more : List PlacedRow) (w : Written) (x : Target Identity) → IsSettled rows w → Leads rows w x → Leads (rows ++ more) w x
 settled-stays rows more w x settled (inl (found s, a, h)) =
     let is = row_there rows (stand_of w) s a in
-    inl (found s, end-more rows more (stand_of w) (found s) tt a,
-      subst (λ o. LeadsHere (rows ++ more) s o x) (sym (places-stay rows more s is)) (here-stays rows more s (place_at rows s) x (settled.2 s a) h))
+    inl (
+      found s,
+      end-more rows more (stand_of w) (found s) tt a,
+      subst (λ o. LeadsHere (rows ++ more) s o x) (sym (places-stay rows more s is)) (here-stays rows more s (place_at rows s) x (settled.2 s a) h),
+    )
 settled-stays rows more w x settled (inl (stream id, a, h)) = inl (stream id, end-more rows more (stand_of w) (stream id) tt a, h)
 settled-stays rows more w x settled (inl (not_yet id path, a, h)) = absurd (settled.1 id path a)
 settled-stays rows more w x settled (inl (nowhere, a, h)) = inl (nowhere, nowhere-more rows more (stand_of w) settled.0 a, h)

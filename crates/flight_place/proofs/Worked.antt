@@ -1,20 +1,18 @@
 -- Worked examples of how references are followed and of what rows mean, each by computation.
-use Rattle.std.proofs.Common.{◌≡◌, ℕ, zero, suc, inl, inr, List, [], ◌∷◌, codes, pos, Option, Some, None, refl}
+use Rattle.std.proofs.Common.{◌≡◌, ℕ, zero, suc, inl, inr, List, [], ◌∷◌, codes, pos, Some, None, refl}
 use Rattle.std.specs.Fmt.{digits}
 use Rattle.flight_value.specs.declared.graph.Atom.TheVariants as atom
 use Rattle.flight_value.specs.declared.graph.Flow.TheVariants as flow
 use Rattle.flight_value.specs.Store as store
-use Rattle.flight_row.specs.declared.row.RowKind.{RowKind}
 use Rattle.flight_row.specs.declared.row.RowKind.TheVariants as row
 use Rattle.flight_text.specs.declared.mark.Ref.{Ref}
 use Rattle.flight_place.specs.declared.place.Place.{Place}
 use Rattle.flight_place.specs.declared.place.Place.TheVariants as place
 use Rattle.flight_place.specs.declared.place.Named.{Named}
-use Rattle.flight_place.specs.declared.place.PlaceTree.{PlaceTree}
 use Rattle.flight_place.specs.declared.place.PlacedRow.{PlacedRow}
-use Rattle.flight_place.specs.Linked.{Spot, place_at, first_place, standing_of, streaming, ended}
-use Rattle.flight_place.specs.Resolve.{Path, Stand, to, here, Found, found, stream, not_yet, nowhere, walk_by, Ends, Endless}
-use Rattle.flight_place.specs.Meaning.{Written, at_place, value_of, made_at, stream_of, map_token, HasSlots, FailsWith, HasShape, Leads, pending}
+use Rattle.flight_place.specs.Linked.{Spot, standing_of, ended}
+use Rattle.flight_place.specs.Resolve.{Path, to, here, found, stream, not_yet, nowhere, walk_by, Ends, Endless}
+use Rattle.flight_place.specs.Meaning.{at_place, value_of, made_at, stream_of, FailsWith, HasShape, Leads, pending}
 
 abbrev model : ℕ → List Place → PlacedRow
 model id places = record { id = id; tree = record { kind = row.Model; places = places } }

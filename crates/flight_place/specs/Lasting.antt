@@ -1,19 +1,24 @@
 -- What of the meaning of rows stays whatever rows follow.
-use Rattle.std.specs.Prelude.{ℕ, ◌≢◌, List, [], All, Option, Some}
+use Rattle.std.specs.Prelude.{ℕ, ◌≢◌, List, [], ◌++◌, All, Option, Some}
 use Rattle.flight_value.specs.declared.graph.Atom.TheVariants as atom
+use Rattle.flight_value.specs.declared.graph.Flow.{Flow}
 use Rattle.flight_value.specs.Store as store
-use Rattle.flight_value.specs.Store.{Label, Shape, Target, Store}
+use Rattle.flight_value.specs.Store.{FlowState, Label, Shape, Store}
 use Rattle.flight_place.specs.declared.place.Place.{Place}
 use Rattle.flight_place.specs.declared.place.Place.TheVariants as place
 use Rattle.flight_place.specs.declared.place.PlacedRow.{PlacedRow}
 use Rattle.flight_place.specs.Linked.{rows_of, Spot, place_at}
 use Rattle.flight_place.specs.Resolve.{to, found, Ends, IsThere, WaitsForNone}
-use Rattle.flight_place.specs.Meaning.{Written, Identity, HasShape, Leads, pending, value_of, stand_of}
+use Rattle.flight_place.specs.Meaning.{Written, Identity, stream_of, HasShape, Leads, pending, value_of, stand_of}
 
 -- the node is no stream that still goes on
 abbrev pub HasEnded : Label → Type 0
 HasEnded (store.stream flow store.flowing) = ⊥
 HasEnded label = Unit {0}
+
+-- the stream has these slots, and perhaps more behind them
+abbrev pub HasGrown : List PlacedRow → ℕ → Flow → List Written → Type 0
+HasGrown rows id flow slots = (now : FlowState) × (rest : List Written) × HasShape rows (stream_of id) (record { label = store.stream flow now; slots = slots ++ rest })
 
 -- what stands at a place waits for no row: of a Map and of a Set the reference, of a server reference its row
 abbrev pub IsSettledHere : List PlacedRow → Option Place → Type 0

@@ -1,7 +1,6 @@
 -- The rows of one id, how an id stands, and the places of rows.
 use Rattle.std.specs.Prelude.{ℕ, ◌==◌, ◌≡◌, Bool, List, [], ◌∷◌, map, Option, Some, None, option_and_then, slice_get}
 use Rattle.std.specs.List.{filter}
-use Rattle.flight_value.specs.declared.graph.Flow.{Flow}
 use Rattle.flight_row.specs.declared.row.RowKind.{RowKind}
 use Rattle.flight_row.specs.declared.row.RowKind.TheVariants as row
 use Rattle.flight_place.specs.declared.place.Place.{Place}
