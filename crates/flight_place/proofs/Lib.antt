@@ -11,3 +11,4 @@ pub mod MoreMeaning
 pub mod PairsStay
 mod Worked
 pub mod Settled
+pub mod Undefined

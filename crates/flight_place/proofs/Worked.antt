@@ -12,7 +12,11 @@ use Rattle.flight_place.specs.declared.place.Named.{Named}
 use Rattle.flight_place.specs.declared.place.PlacedRow.{PlacedRow}
 use Rattle.flight_place.specs.Linked.{Spot, standing_of, ended}
 use Rattle.flight_place.specs.Resolve.{Path, to, here, found, stream, not_yet, nowhere, walk_by, Ends, Endless}
-use Rattle.flight_place.specs.Meaning.{at_place, value_of, made_at, stream_of, FailsWith, HasShape, Leads, pending}
+use Rattle.flight_place.specs.Meaning.{at_place, value_of, made_at, stream_of, FailsWith, HasShape, Leads, pending, promise_of, action_of}
+use Rattle.flight_place.specs.Good.{IsUndefined}
+use Rattle.flight_place.specs.Lasting.{IsResolved}
+use Rattle.flight_place.proofs.Walking.{not_endless}
+use Rattle.flight_place.proofs.OneMeaning.{leads_once}
 
 abbrev model : ℕ → List Place → PlacedRow
 model id places = record { id = id; tree = record { kind = row.Model; places = places } }
@@ -168,3 +172,39 @@ stream_stands = refl
 -- no row follows the end
 stream_refuses : standing_of 2 (open_row ∷ close_row ∷ item_row ∷ []) ≡ None
 stream_refuses = refl
+
+-- ---- what pends, and what came: the lazy of row 0
+
+lazy_pends : Leads (lazy_row ∷ []) (at_place (spot 0 0 1)) pending
+lazy_pends = inl (not_yet 1 [], (2, refl), refl)
+
+lazy_came : Leads (lazy_row ∷ later_row ∷ []) (at_place (spot 0 0 1)) (store.node_at (made_at (spot 1 0 0)))
+lazy_came = inl (found (spot 1 0 0), (3, refl), refl)
+
+-- now it is resolved
+lazy_resolved : IsResolved (lazy_row ∷ later_row ∷ []) (at_place (spot 0 0 1))
+lazy_resolved h = absurd (apart (leads_once (lazy_row ∷ later_row ∷ []) (at_place (spot 0 0 1)) (store.node_at (made_at (spot 1 0 0))) pending lazy_came h))
+  where
+    apart : store.node_at (made_at (spot 1 0 0)) ≡ pending → ⊥
+    apart e = cc
+
+-- a reference in a ring is not defined
+ring_undefined : IsUndefined ring 0
+ring_undefined = (place.Value (reference 0 []), (spot 0 0 0, refl), refl, λ d. not_endless ring (to 0 []) d.0 d.1 ring_endless)
+
+-- ---- a server reference: 0:"$h3" and 3:{"bound":null,"id":"a"}
+
+abbrev action_rows : List PlacedRow
+action_rows =
+    model 0 (place.Action 3 ∷ []) ∷ model 3 (place.Object (prop (codes "bound") 1 ∷ prop (codes "id") 2 ∷ []) ∷ place.Atom atom.Null ∷ place.Atom (atom.Text (codes "a")) ∷ []) ∷ []
+
+action_leads : Leads action_rows (value_of 0) (store.node_at (action_of 3))
+action_leads = inl (found (spot 0 0 0), (2, refl), refl)
+
+action_stands : HasShape action_rows (action_of 3) (record { label = store.action (codes "a"); slots = at_place (spot 3 0 1) ∷ [] })
+action_stands = refl
+
+-- ---- a promise is a node whether its row is there or not: 0:"$@1"
+
+promise_pends : Leads (model 0 (place.Promise 1 ∷ []) ∷ []) (value_of 0) (store.node_at (promise_of 1))
+promise_pends = inl (found (spot 0 0 0), (2, refl), refl)

@@ -1,4 +1,4 @@
-ghost use Rattle.std.specs.Prelude.{ℕ, ◌≡◌, ◌≢◌, ◌↔◌, List, [], ◌∷◌, ◌++◌, Some, All, length};
+ghost use Rattle.std.specs.Prelude.{ℕ, ◌≡◌, ◌≢◌, ◌↔◌, List, [], ◌∷◌, ◌++◌, Option, Some, All, length};
 ghost use Rattle.flight_value.specs.Store as store;
 ghost use Rattle.flight_value.specs.Store.{FlowState, Shape, Target, Fits, Paired, DrawOneGraph, of_graph};
 ghost use Rattle.flight_value.specs.declared.graph.Flow.{Flow};
@@ -15,7 +15,7 @@ ghost use Rattle.flight_place.specs.Rows.{IsTree, IsRowFault};
 ghost use Rattle.flight_place.specs.Linked.{rows_of, Spot, place_at};
 ghost use Rattle.flight_place.specs.Resolve.{Path, Stand, to, here, Found, found, stream, not_yet, nowhere, Ends, Endless, LeadsNowhere, IsEnd, StopsAt, IsThere, WaitsForNone};
 ghost use Rattle.flight_place.specs.Meaning.{Written, Identity, stream_of, Token, HasSlots, FailsWith, HasShape, pending, Leads, meaning};
-ghost use Rattle.flight_place.specs.Good.{IsDefined};
+ghost use Rattle.flight_place.specs.Good.{IsDefined, IsLeastUndefined};
 ghost use Rattle.flight_place.specs.Lasting.{HasEnded, HasGrown, IsSettled, IsResolvedUnder, IsComplete};
 
 /// Each number in a place is that of a place of the same tree.
@@ -35,8 +35,8 @@ pub fn one_tree()
     ensures apart { (manner : Manner) (row : Row) (t : PlaceTree) (k : PlaceKind) → IsTree manner row t → ¬ IsRowFault manner row k }
 {}
 
-/// A fact alone: a walk has one end, and never ends if it has none. At a place where it ends stands no lazy and no
-/// value reference, and an id that it waits for has no row.
+/// A fact alone: a walk has at most one end, and one that ends is not endless. At a place where it ends stands no lazy
+/// and no value reference, and an id that it waits for has no row.
 pub fn one_end()
     ensures one { (rows : List PlacedRow) (s : Stand) (f g : Found) → Ends rows s f → Ends rows s g → f ≡ g }
     ensures apart { (rows : List PlacedRow) (s : Stand) (f : Found) → Ends rows s f → ¬ Endless rows s }
@@ -61,12 +61,13 @@ pub fn walks_on()
 {}
 
 /// A fact alone: each slot leads to one target, and under each identity stands one node. A reference does not lead to
-/// slots and to a failure.
+/// slots and to a failure. One id at most is the least that is not defined.
 pub fn one_meaning()
     ensures targets { (rows : List PlacedRow) (w : Written) (x y : Target Identity) → Leads rows w x → Leads rows w y → x ≡ y }
     ensures nodes { (rows : List PlacedRow) (k : Identity) (x y : Shape Written) → HasShape rows k x → HasShape rows k y → x ≡ y }
     ensures slots { (rows : List PlacedRow) (token : Token) (r : Ref) (x y : List Written) → HasSlots rows token r x → HasSlots rows token r y → x ≡ y }
     ensures failures { (rows : List PlacedRow) (token : Token) (r : Ref) (slots : List Written) (digest : List ℕ) → HasSlots rows token r slots → ¬ FailsWith rows r digest }
+    ensures undefined { (rows : List PlacedRow) (a b : Option ℕ) → IsLeastUndefined rows a → IsLeastUndefined rows b → a ≡ b }
 {}
 
 /// A fact alone: what some rows resolved stays, whatever rows follow. A stream that still goes on takes more slots behind

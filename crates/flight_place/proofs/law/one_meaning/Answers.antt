@@ -1,4 +1,5 @@
 use Rattle.flight_place.proofs.OneMeaning as meaning
+use Rattle.flight_place.proofs.Undefined.{one_least}
 use Rattle.flight_place.proofs.law.one_meaning.Goals as goal
 
 pub returns-clause-targets : goal.returns-clause-targets
@@ -12,3 +13,6 @@ returns-clause-slots c = meaning.one_slots
 
 pub returns-clause-failures : goal.returns-clause-failures
 returns-clause-failures c = meaning.slots_or_failure
+
+pub returns-clause-undefined : goal.returns-clause-undefined
+returns-clause-undefined c = one_least
