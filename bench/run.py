@@ -1,7 +1,7 @@
 #!/usr/bin/env python3
 """Measures `flight view`: time, peak memory, how processor time grows with the input, and its ratio to a peer's.
 
-usage: bench/run.py [--peer COMMAND] [--runs N] [--sizes 8,16,32,60] [--shapes numbers,objects,text] [--seed N]
+usage: bench/run.py [--peer COMMAND] [--runs N] [--sizes 8,16,32,60] [--shapes NAME,NAME ..] [--seed N]
                     [--inputs FOLDER] [--markdown]
 
 It makes the proved build first (bin/build), writes the inputs (inputs.py; into FOLDER, where they stay, or into a folder
