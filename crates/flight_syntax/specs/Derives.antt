@@ -1,5 +1,5 @@
 -- The program that a text is.
-use Rattle.std.specs.Prelude.{ℕ, ◌≡◌, ◌≢◌, ◌⊎◌, List, codes, Some}
+use Rattle.std.specs.Prelude.{ℕ, ◌≡◌, ◌≢◌, ◌⊎◌, List, map, codes, Some}
 use Rattle.std.specs.List.{AllZip, AllPairs}
 use Rattle.serde_json.specs.Data.{Data}
 use Rattle.serde_json.specs.Read.{of_json}
@@ -16,9 +16,9 @@ use Rattle.flight_syntax.specs.Scope.{IsServer, IsClient, IsAction, Means}
 
 -- a declaration as written and as kept: a client component's JSON is kept as `serde_json` writes it compactly
 abbrev pub DeclaredAs : List Declaration → Declaration → Declared → Type 0
-DeclaredAs all (server named params body) (Server n ps b) = (n ≡ named) × (ps ≡ params) × AllPairs (λ a b. a ≢ b) params × Means all params body (term b)
-DeclaredAs all (client_is named json) (Client n import) = (n ≡ named) × ((d : Data) × (of_json json ≡ Some d) × (import ≡ compact_text d))
-DeclaredAs all (action_is named params body) (Action n ps b) = (n ≡ named) × (ps ≡ params) × AllPairs (λ a b. a ≢ b) params × Means all params body (term b)
+DeclaredAs all (server named params body) (Server n ps b) = (n ≡ named.bytes) × (ps ≡ map (λ p. p.bytes) params) × AllPairs (λ a b. a ≢ b) ps × Means all ps body (term b)
+DeclaredAs all (client_is named json) (Client n import) = (n ≡ named.bytes) × ((d : Data) × (of_json json ≡ Some d) × (import ≡ compact_text d))
+DeclaredAs all (action_is named params body) (Action n ps b) = (n ≡ named.bytes) × (ps ≡ map (λ p. p.bytes) params) × AllPairs (λ a b. a ≢ b) ps × Means all ps body (term b)
 DeclaredAs all _ _ = ⊥
 
 -- the component at a position has that name

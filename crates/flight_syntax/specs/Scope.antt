@@ -4,6 +4,7 @@ use Rattle.json.specs.Json.{Json}
 use Rattle.flight_syntax.specs.declared.expr.Tag.{Tag}
 use Rattle.flight_syntax.specs.declared.expr.Tag.TheVariants.{Host, Server, Client, Suspense}
 use Rattle.flight_syntax.specs.Names.{is_lower}
+use Rattle.flight_syntax.specs.Words.{Placed}
 use Rattle.flight_syntax.specs.Term as term
 use Rattle.flight_syntax.specs.Term.{Term, Terms, Props, Pairs}
 use Rattle.flight_syntax.specs.Tree as tree
@@ -16,13 +17,13 @@ pub record IsInnermost (scope : List (List ℕ)) (named : List ℕ) (number : �
 
 -- the declaration at a position has that name and is a server component, a client component or an action
 abbrev pub IsServer : List Declaration → ℕ → List ℕ → Type 0
-IsServer all number named = (params : List (List ℕ)) × (body : Tree) × (slice_get all number ≡ Some (tree.server named params body))
+IsServer all number named = (at : ℕ) × (params : List Placed) × (body : Tree) × (slice_get all number ≡ Some (tree.server (record { bytes = named; at = at }) params body))
 
 abbrev pub IsClient : List Declaration → ℕ → List ℕ → Type 0
-IsClient all number named = (import : Json) × (slice_get all number ≡ Some (tree.client_is named import))
+IsClient all number named = (at : ℕ) × (import : Json) × (slice_get all number ≡ Some (tree.client_is (record { bytes = named; at = at }) import))
 
 abbrev pub IsAction : List Declaration → ℕ → List ℕ → Type 0
-IsAction all number named = (params : List (List ℕ)) × (body : Tree) × (slice_get all number ≡ Some (tree.action_is named params body))
+IsAction all number named = (at : ℕ) × (params : List Placed) × (body : Tree) × (slice_get all number ≡ Some (tree.action_is (record { bytes = named; at = at }) params body))
 
 -- what a tag stands for: a lower name is an element of the host
 abbrev pub TagIs : List Declaration → List ℕ → Tag → Type 0
@@ -34,12 +35,12 @@ TagIs all named Suspense = named ≡ codes "Suspense"
 -- no property has the name
 abbrev pub HasNone : List ℕ → TreeProps → Type 0
 HasNone named tree.no_props = Unit {0}
-HasNone named (tree.prop_and other value rest) = (named ≢ other) × HasNone named rest
+HasNone named (tree.prop_and other value rest) = (named ≢ other.bytes) × HasNone named rest
 
 -- no property comes twice
 abbrev pub HasNoneTwice : TreeProps → Type 0
 HasNoneTwice tree.no_props = Unit {0}
-HasNoneTwice (tree.prop_and named value rest) = HasNone named rest × HasNoneTwice rest
+HasNoneTwice (tree.prop_and named value rest) = HasNone named.bytes rest × HasNoneTwice rest
 
 -- no attribute `children` stands beside children
 abbrev pub HasChildrenOnce : TreeProps → Trees → Type 0
@@ -54,28 +55,28 @@ HasNoKey _ attrs = Unit {0}
 -- a tree and a term that say the same, under declarations and the variables in scope
 abbrev mutual
   pub Means : List Declaration → List (List ℕ) → Tree → Term → Type 0
-  Means all scope (tree.let_in named bound rest) (term.let_in n v t) = (n ≡ named) × Means all scope bound v × Means all (scope ++ named ∷ []) rest t
+  Means all scope (tree.let_in named bound rest) (term.let_in n v t) = (n ≡ named.bytes) × Means all scope bound v × Means all (scope ++ named.bytes ∷ []) rest t
   Means all scope (tree.if_else test yes_one other) (term.if_else t y o) = Means all scope test t × Means all scope yes_one y × Means all scope other o
-  Means all scope (tree.for_in named over give) (term.for_in n o g) = (n ≡ named) × Means all scope over o × Means all (scope ++ named ∷ []) give g
+  Means all scope (tree.for_in named over give) (term.for_in n o g) = (n ≡ named.bytes) × Means all scope over o × Means all (scope ++ named.bytes ∷ []) give g
   Means all scope (tree.throw thrown) (term.throw t) = Means all scope thrown t
-  Means all scope (tree.member of named) (term.member o n) = (n ≡ named) × Means all scope of o
+  Means all scope (tree.member of named) (term.member o n) = (n ≡ named.bytes) × Means all scope of o
   Means all scope (tree.index of at) (term.index o a) = Means all scope of o × Means all scope at a
   Means all scope (tree.atom value) (term.atom a) = a ≡ value
-  Means all scope (tree.variable named) (term.variable number) = IsInnermost scope named number
-  Means all scope (tree.client named) (term.client number) = IsClient all number named
+  Means all scope (tree.variable named) (term.variable number) = IsInnermost scope named.bytes number
+  Means all scope (tree.client named) (term.client number) = IsClient all number named.bytes
   Means all scope (tree.array items) (term.array ts) = MeansEach all scope items ts
   Means all scope (tree.object props) (term.object ps) = HasNoneTwice props × MeansProps all scope props ps
   Means all scope (tree.map pairs) (term.map ps) = MeansPairs all scope pairs ps
   Means all scope (tree.set items) (term.set ts) = MeansEach all scope items ts
-  Means all scope (tree.source named) (term.source n) = n ≡ named
-  Means all scope (tree.promise named) (term.promise n) = n ≡ named
-  Means all scope (tree.stream named) (term.stream n) = n ≡ named
-  Means all scope (tree.action named) (term.action number) = IsAction all number named
-  Means all scope (tree.action_with named bound) (term.action_with number ts) = IsAction all number named × MeansEach all scope bound ts
+  Means all scope (tree.source named) (term.source n) = n ≡ named.bytes
+  Means all scope (tree.promise named) (term.promise n) = n ≡ named.bytes
+  Means all scope (tree.stream named) (term.stream n) = n ≡ named.bytes
+  Means all scope (tree.action named) (term.action number) = IsAction all number named.bytes
+  Means all scope (tree.action_with named bound) (term.action_with number ts) = IsAction all number named.bytes × MeansEach all scope bound ts
   Means all scope (tree.paren inside) (term.paren t) = Means all scope inside t
   Means all scope (tree.binary op left right) (term.binary o l r) = (o ≡ op) × Means all scope left l × Means all scope right r
   Means all scope (tree.element named attrs children) (term.element tag ps ts) =
-      TagIs all named tag × HasNoneTwice attrs × HasChildrenOnce attrs children × HasNoKey tag attrs × MeansProps all scope attrs ps × MeansEach all scope children ts
+      TagIs all named.bytes tag × HasNoneTwice attrs × HasChildrenOnce attrs children × HasNoKey tag attrs × MeansProps all scope attrs ps × MeansEach all scope children ts
   Means all scope _ _ = ⊥
 
   pub MeansEach : List Declaration → List (List ℕ) → Trees → Terms → Type 0
@@ -85,7 +86,7 @@ abbrev mutual
 
   pub MeansProps : List Declaration → List (List ℕ) → TreeProps → Props → Type 0
   MeansProps all scope tree.no_props term.no_props = Unit {0}
-  MeansProps all scope (tree.prop_and named value rest) (term.prop_and n t ps) = (n ≡ named) × Means all scope value t × MeansProps all scope rest ps
+  MeansProps all scope (tree.prop_and named value rest) (term.prop_and n t ps) = (n ≡ named.bytes) × Means all scope value t × MeansProps all scope rest ps
   MeansProps all scope _ _ = ⊥
 
   pub MeansPairs : List Declaration → List (List ℕ) → TreePairs → Pairs → Type 0
