@@ -1,1 +1,9 @@
+pub mod Exact
+pub mod Parts
+pub mod Choices
+pub mod Many
+pub mod Terminals
+pub mod Lists
+pub mod After
+pub mod Listed
 pub mod Example

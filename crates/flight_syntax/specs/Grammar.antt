@@ -22,7 +22,7 @@ Constant a words = one constant_of a words ⊎ ((sign Minus ▸ one negative_of 
 
 -- a text without braces, as an attribute's value or a child
 abbrev pub Bare : Tree → Phrase
-Bare tree words = (text : Placed) × (tree ≡ atom (value.Text text.bytes)) × one text_of text words
+Bare tree words = (text : Placed) × (atom (value.Text text.bytes) ≡ tree) × one text_of text words
 
 -- parts of an attribute's name, behind the first
 abbrev pub MoreParts : List Placed → Phrase
@@ -31,7 +31,7 @@ MoreParts (part ∷ parts) words = ((sign Minus ▸ one name_of part) ▸ MorePa
 
 -- the name of an attribute
 abbrev pub AttributeName : Placed → Phrase
-AttributeName named words = (first : Placed) × (parts : List Placed) × (named ≡ joined first parts) × (one name_of first ▸ MoreParts parts) words
+AttributeName named words = (first : Placed) × (parts : List Placed) × (joined first parts ≡ named) × (one name_of first ▸ MoreParts parts) words
 
 -- a mark that would begin what is beyond a limit
 abbrev pub Beyond : Punctuator → Phrase
