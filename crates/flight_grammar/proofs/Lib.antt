@@ -6,4 +6,6 @@ pub mod Terminals
 pub mod Lists
 pub mod After
 pub mod Listed
+pub mod Productions
+pub mod Postfixes
 pub mod Example

@@ -22,6 +22,25 @@ exact_done {A} a = record {
   some = record { tree = a; text = []; spelled = (refl, refl) };
 }
 
+-- the continuing words, where something is spelled
+pub exact_spelled : {A : Type 0} (P : A → Phrase) (on other : A → Word → Bool) (r : Reader A) → ((a : A) (x : List Word) → P a x → (w : Word) → on a w ≡ other a w) → ((a : A) → IsMeek (other a)) → Exact P on r → Exact P other r
+exact_spelled {A} P on other r same meek h = record {
+  sound = λ ts a rest e.
+      let s = h.sound ts a rest e in record { front = s.front; whole = s.whole; spelled = s.spelled; closed = is (on a) (other a) (same a s.front s.spelled) rest s.closed };
+  complete = λ a x rest m c. h.complete a x rest m (is (other a) (on a) (λ w. sym (same a x m w)) rest c);
+  stops = h.stops;
+  meek = meek;
+  some = h.some;
+}
+  where
+    is : (f g : Word → Bool) → ((w : Word) → f w ≡ g w) → (ts : List Word) → Closed f ts → Closed g ts
+    is f g e [] c = refl
+    is f g e (t ∷ ts) c = sym (e t) ∙ c
+
+-- nothing, where nothing continues it
+pub exact_done_on : {A : Type 0} (a : A) (on : A → Word → Bool) → ((w : Word) → on a w ≡ false) → ((b : A) → IsMeek (on b)) → Exact (Just a) on (done a)
+exact_done_on {A} a on h meek = exact_spelled (Just a) never on (done a) (λ b x m w. sym (subst (λ z. on z w ≡ false) (sym m.0) (h w))) meek (exact_done a)
+
 -- ---- one after the other
 
 abbrev pub Seq : {A B : Type 0} → (A → Phrase) → (A → B → Phrase) → A × B → Phrase
