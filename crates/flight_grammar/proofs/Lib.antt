@@ -8,4 +8,5 @@ pub mod After
 pub mod Listed
 pub mod Productions
 pub mod Postfixes
+pub mod Atoms
 pub mod Example
