@@ -289,7 +289,7 @@ atom_back d _ x i m = absurd i
 
 -- ---- exact
 
-meek_atom : (tree : Tree) → IsMeek (after_atom tree)
+pub meek_atom : (tree : Tree) → IsMeek (after_atom tree)
 meek_atom (action n) = meek_at (is_key With) (the_key With)
 meek_atom _ = meek_none
 

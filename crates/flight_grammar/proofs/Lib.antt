@@ -7,6 +7,8 @@ pub mod Lists
 pub mod After
 pub mod Listed
 pub mod Productions
+pub mod Deep
 pub mod Postfixes
 pub mod Atoms
+pub mod Levels
 pub mod Example

@@ -94,6 +94,13 @@ post_first d n ps x m = subst (HasHead starts_post) (sym m.2) (by n m.0 m.3)
     by n (beyond OpenBracket) m = refl
     by n _ m = absurd m
 
+pub posts_head : (d n : ℕ) (p : Post) (ps : List Post) (x : List Word) → Posts d n (p ∷ ps) x → HasHead starts_post x
+posts_head d n p ps x m = by (posts_back d n (p ∷ ps) x m)
+  where
+    by : Or (ByWord (PostBehind d n)) (Just []) (p ∷ ps) x → HasHead starts_post x
+    by (inl m) = post_first d n (p ∷ ps) x m
+    by (inr m) = absurd (cc (m.0))
+
 -- an arm that is exact is so in some way
 pub exact_arm : {A : Type 0} (Q : A → Phrase) (on : A → Word → Bool) (L : Type 0) (arm : Arm A) → IsArm Q on L arm → IsExactArm arm
 exact_arm Q on L stop h = tt
