@@ -11,4 +11,6 @@ pub mod Deep
 pub mod Postfixes
 pub mod Atoms
 pub mod Levels
+pub mod Values
+pub mod Programs
 pub mod Example

@@ -2,5 +2,15 @@
 //!
 //! Nothing here runs. `specs/Reader.antt` is a reader of programs, a function on lists of words with one word of
 //! foresight, which the parser is proved against. `specs/Verdict.antt` says, by the productions of
-//! `flight_syntax` alone, what a list of words comes to.
+//! `flight_syntax` alone, what a list of words comes to, and [`reads_programs`] that the reader gives just that.
 #![tactic(auto)]
+
+ghost use Rattle.std.specs.Prelude.{List};
+ghost use Rattle.flight_syntax.specs.Words.{Word};
+ghost use Rattle.flight_grammar.specs.Reader.{program};
+ghost use Rattle.flight_grammar.specs.Verdict.{Verdict};
+
+/// The reader gives the one program that the words spell, or the first word that no program continues with.
+pub fn reads_programs()
+    ensures { (words : List Word) → Verdict words (program words) }
+{}
