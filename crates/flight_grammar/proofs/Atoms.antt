@@ -7,7 +7,7 @@ use Rattle.flight_syntax.specs.declared.word.Keyword.TheVariants.{Date, Symbol, 
 use Rattle.flight_syntax.specs.declared.word.Punctuator.{Punctuator}
 use Rattle.flight_syntax.specs.declared.word.Punctuator.TheVariants.{OpenParen, CloseParen, OpenBracket, CloseBracket, OpenBrace, CloseBrace, Minus, Less, Greater, LessSlash, SlashGreater, Assign}
 use Rattle.flight_syntax.specs.declared.expr.Op.{Op}
-use Rattle.flight_syntax.specs.Words.{Word, key, lower, upper, mark, Placed, U, Phrase, ◌▸◌, nothing, one, is_key, is_mark, keyword, sign, name_of, lower_of, upper_of, plain_of, is_plain, constant_of, negative_of, date_of, symbol_of, operator_of}
+use Rattle.flight_syntax.specs.Lexicon.{Word, key, lower, upper, mark, Placed, U, Phrase, ◌▸◌, nothing, one, is_key, is_mark, keyword, sign, name_of, lower_of, upper_of, plain_of, is_plain, constant_of, negative_of, date_of, symbol_of, operator_of}
 use Rattle.flight_syntax.specs.Tree.{Tree, Trees, TreeProps, let_in, if_else, for_in, throw, member, index, atom, variable, client, array, object, map, set, source, promise, stream, action, action_with, paren, binary, element, too_deep, too_many, no_trees, tree_and, no_props, prop_and, trees_of, props_of, pairs_of, postfixes, IsBase, IsElement, joined}
 use Rattle.flight_syntax.specs.Grammar.{Spells, Constant, Listed, Attributes, AttributeName, Children}
 use Rattle.flight_grammar.specs.Reading.{Reader, Arm, at, stop, limit, go, want, done, both, made, behind}

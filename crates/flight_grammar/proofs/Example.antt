@@ -4,7 +4,7 @@ use Rattle.std.specs.Prelude.{codes}
 use Rattle.flight_value.specs.declared.graph.Atom.TheVariants as value
 use Rattle.flight_syntax.specs.declared.word.Keyword.TheVariants.{Server}
 use Rattle.flight_syntax.specs.declared.word.Punctuator.TheVariants.{OpenParen, CloseParen, OpenBracket, CloseBracket, Comma, Semicolon, Assign, Dot}
-use Rattle.flight_syntax.specs.Words.{Word, Placed, key, lower, upper, number, mark}
+use Rattle.flight_syntax.specs.Lexicon.{Word, Placed, key, lower, upper, number, mark}
 use Rattle.flight_syntax.specs.Tree as tree
 use Rattle.flight_grammar.specs.Reading.{Fault}
 use Rattle.flight_grammar.specs.Reader.{program, expression, level}

@@ -4,7 +4,7 @@ use Rattle.std.proofs.lemmas.List.{append-nil}
 use Rattle.flight_syntax.specs.declared.word.Keyword.TheVariants.{Let, In, If, Then, Else, For, Give, Throw, With}
 use Rattle.flight_syntax.specs.declared.word.Punctuator.{Punctuator}
 use Rattle.flight_syntax.specs.declared.word.Punctuator.TheVariants.{OpenBracket, CloseBracket, Dot, Less, Assign}
-use Rattle.flight_syntax.specs.Words.{Word, key, lower, upper, mark, deep, beyond, Placed, U, Phrase, ◌▸◌, nothing, one, is_key, is_mark, is_deep, keyword, sign, name_of, lower_of}
+use Rattle.flight_syntax.specs.Lexicon.{Word, key, lower, upper, mark, deep, beyond, Placed, U, Phrase, ◌▸◌, nothing, one, is_key, is_mark, is_deep, keyword, sign, name_of, lower_of}
 use Rattle.flight_syntax.specs.Tree.{Tree, Trees, TreeProps, let_in, if_else, for_in, throw, member, index, atom, variable, client, array, object, map, set, source, promise, stream, action, action_with, paren, binary, element, too_deep, too_many, postfixes, IsBase, IsElement}
 use Rattle.flight_syntax.specs.Grammar.{most_postfixes, Spells, Beyond}
 use Rattle.flight_grammar.specs.Reading as reading

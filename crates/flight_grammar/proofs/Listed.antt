@@ -3,7 +3,7 @@ use Rattle.std.proofs.Common.{◌≡◌, ℕ, List, [], ◌∷◌, ◌++◌, ref
 use Rattle.json.specs.Json as json
 use Rattle.json.specs.Json.{Json}
 use Rattle.flight_syntax.specs.declared.word.Punctuator.TheVariants.{OpenBracket, CloseBracket, OpenBrace, CloseBrace, Comma, Colon, Minus}
-use Rattle.flight_syntax.specs.Words.{Word, Placed, Phrase, ◌▸◌, nothing, one, is_mark, name_of, lower_of, text_of, property_of}
+use Rattle.flight_syntax.specs.Lexicon.{Word, Placed, Phrase, ◌▸◌, nothing, one, is_mark, name_of, lower_of, text_of, property_of}
 use Rattle.flight_syntax.specs.Tree.{Tree, Trees, TreeProps, TreePairs, Declaration, no_trees, tree_and, no_props, prop_and, no_pairs, pair_and, trees_of, props_of, pairs_of, json_items_of, json_members_of}
 use Rattle.flight_syntax.specs.Grammar.{Spells, Listed, MoreListed, Properties, MoreProperties, Entries, MoreEntries, SpellsJson, JsonItems, MoreJsonItems, JsonMembers, MoreJsonMembers, Parameters, MoreParameters, MoreParts, Declares, DeclaresAll}
 use Rattle.flight_grammar.proofs.Parts.{Seq}

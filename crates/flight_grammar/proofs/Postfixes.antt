@@ -3,7 +3,7 @@ use Rattle.std.proofs.Common.{◌≡◌, ℕ, zero, suc, ◌+◌, ◌<◌, ◌�
 use Rattle.std.proofs.lemmas.List.{append-nil}
 use Rattle.flight_syntax.specs.declared.word.Punctuator.{Punctuator}
 use Rattle.flight_syntax.specs.declared.word.Punctuator.TheVariants.{OpenBracket, CloseBracket, Dot}
-use Rattle.flight_syntax.specs.Words.{Word, mark, deep, beyond, Placed, U, Phrase, ◌▸◌, nothing, one, is_mark, sign, name_of}
+use Rattle.flight_syntax.specs.Lexicon.{Word, mark, deep, beyond, Placed, U, Phrase, ◌▸◌, nothing, one, is_mark, sign, name_of}
 use Rattle.flight_syntax.specs.Tree.{Tree, member, index, too_many}
 use Rattle.flight_syntax.specs.Grammar.{Spells, Beyond}
 use Rattle.flight_grammar.specs.Reading.{Reader, Arm, stop, limit, go, at, want, done, both, made, closed, choice, by_word}

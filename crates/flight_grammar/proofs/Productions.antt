@@ -4,7 +4,7 @@ use Rattle.flight_syntax.specs.declared.word.Keyword.TheVariants.{Let, In, Then,
 use Rattle.flight_syntax.specs.declared.word.Punctuator.{Punctuator}
 use Rattle.flight_syntax.specs.declared.word.Punctuator.TheVariants.{OpenParen, CloseParen, OpenBracket, CloseBracket, OpenBrace, CloseBrace, Comma, Semicolon, Colon, Dot, Assign, Minus, Less, Greater, LessSlash, SlashGreater}
 use Rattle.flight_syntax.specs.declared.expr.Op.{Op}
-use Rattle.flight_syntax.specs.Words.{Word, key, mark, beyond, Placed, U, Phrase, ◌▸◌, one, is_key, is_mark, name_of, lower_of, plain_of, is_plain, text_of, property_of, operator_of}
+use Rattle.flight_syntax.specs.Lexicon.{Word, key, mark, beyond, Placed, U, Phrase, ◌▸◌, one, is_key, is_mark, name_of, lower_of, plain_of, is_plain, text_of, property_of, operator_of}
 use Rattle.flight_syntax.specs.Tree.{Tree, element, too_deep, IsElement}
 use Rattle.flight_syntax.specs.Grammar.{Spells, Beyond}
 use Rattle.flight_grammar.specs.Reading.{Fault, Read, Reader, unexpected, is_some, at, next_is, want, done, both, made, behind, closed, choice, many}

@@ -6,7 +6,7 @@ use Rattle.json.specs.Json.{Json}
 use Rattle.flight_syntax.specs.declared.word.Keyword.TheVariants.{Server, Client, Action, Null}
 use Rattle.flight_syntax.specs.declared.word.Punctuator.{Punctuator}
 use Rattle.flight_syntax.specs.declared.word.Punctuator.TheVariants.{OpenParen, CloseParen, Comma, Semicolon, Assign}
-use Rattle.flight_syntax.specs.Words.{Word, key, lower, upper, mark, deep, beyond, Placed, Phrase, ◌▸◌, nothing, one, is_key, is_mark, keyword, sign, lower_of, component_of}
+use Rattle.flight_syntax.specs.Lexicon.{Word, key, lower, upper, mark, deep, beyond, Placed, Phrase, ◌▸◌, nothing, one, is_key, is_mark, keyword, sign, lower_of, component_of}
 use Rattle.flight_syntax.specs.Tree.{Tree, Declaration, server, client_is, action_is}
 use Rattle.flight_syntax.specs.Grammar.{most_levels, Spells, SpellsJson, Parameters, Declares, DeclaresAll}
 use Rattle.flight_grammar.specs.Reading.{Fault, Read, Reader, ◌>>=◌, Arm, stop, limit, go, at, next_is, want, both, made, by_word, list_until, many}

@@ -6,7 +6,7 @@ use Rattle.json.specs.Json.{Json}
 use Rattle.flight_syntax.specs.declared.word.Keyword.TheVariants.{Null}
 use Rattle.flight_syntax.specs.declared.word.Punctuator.{Punctuator}
 use Rattle.flight_syntax.specs.declared.word.Punctuator.TheVariants.{OpenBracket, CloseBracket, OpenBrace, CloseBrace, Comma, Colon, Minus}
-use Rattle.flight_syntax.specs.Words.{Word, Placed, key, number, mark, deep, beyond, Phrase, ◌▸◌, nothing, one, is_mark, is_deep, sign, text_of, json_of, negative_json_of}
+use Rattle.flight_syntax.specs.Lexicon.{Word, Placed, key, number, mark, deep, beyond, Phrase, ◌▸◌, nothing, one, is_mark, is_deep, sign, text_of, json_of, negative_json_of}
 use Rattle.flight_syntax.specs.Tree.{json_items_of, json_members_of}
 use Rattle.flight_syntax.specs.Grammar.{SpellsJson}
 use Rattle.flight_grammar.specs.Reading.{Reader, at, Arm, stop, limit, go, want, done, made, by_word, list_until}

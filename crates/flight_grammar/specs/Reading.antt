@@ -1,7 +1,7 @@
 -- Reading words from left to right with one word of foresight: what reading is made of.
 use Rattle.std.specs.Prelude.{ℕ, zero, suc, Bool, true, false, if◌then◌else◌, List, [], ◌∷◌, length, Option, Some, None, Result, Ok, Err}
 use Rattle.flight_syntax.specs.declared.word.Punctuator.TheVariants.{Comma}
-use Rattle.flight_syntax.specs.Words.{Word, U, is_mark}
+use Rattle.flight_syntax.specs.Lexicon.{Word, U, is_mark}
 
 -- where the reading ends, by the number of words that are left there: at a word that nothing continues with,
 -- or where the nesting or the postfixes pass their limit

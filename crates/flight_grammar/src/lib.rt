@@ -6,7 +6,7 @@
 #![tactic(auto)]
 
 ghost use Rattle.std.specs.Prelude.{List};
-ghost use Rattle.flight_syntax.specs.Words.{Word};
+ghost use Rattle.flight_syntax.specs.Lexicon.{Word};
 ghost use Rattle.flight_grammar.specs.Reader.{program};
 ghost use Rattle.flight_grammar.specs.Verdict.{Verdict};
 

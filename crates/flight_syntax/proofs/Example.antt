@@ -6,7 +6,7 @@ use Rattle.flight_syntax.specs.declared.token.TokenKind.TheVariants as kind
 use Rattle.flight_syntax.specs.declared.token.TokenKind.{TokenKind}
 use Rattle.flight_syntax.specs.declared.word.Keyword.TheVariants.{Server}
 use Rattle.flight_syntax.specs.declared.word.Punctuator.TheVariants as signs
-use Rattle.flight_syntax.specs.Words.{Word, Placed, key, lower, upper, number, mark, word_as}
+use Rattle.flight_syntax.specs.Lexicon.{Word, Placed, key, lower, upper, number, mark, word_as}
 use Rattle.flight_syntax.specs.Tree as tree
 use Rattle.flight_syntax.specs.Term as term
 use Rattle.flight_syntax.specs.Scope.{Means}

@@ -6,7 +6,7 @@ use Rattle.flight_syntax.specs.declared.word.Keyword.TheVariants.{Date, Symbol, 
 use Rattle.flight_syntax.specs.declared.word.Punctuator.{Punctuator}
 use Rattle.flight_syntax.specs.declared.word.Punctuator.TheVariants.{OpenParen, CloseParen, OpenBracket, CloseBracket, OpenBrace, CloseBrace, Comma, Semicolon, Colon, Dot, Assign, Minus, Less, Greater, LessSlash, SlashGreater}
 use Rattle.json.specs.Json as json
-use Rattle.flight_syntax.specs.Words.{Placed, beyond, is_deep, name_of, lower_of, upper_of, plain_of, is_plain, component_of, text_of, property_of, constant_of, negative_of, date_of, symbol_of, operator_of, json_of, negative_json_of, Phrase, ◌▸◌, nothing, one, keyword, sign}
+use Rattle.flight_syntax.specs.Lexicon.{Placed, beyond, is_deep, name_of, lower_of, upper_of, plain_of, is_plain, component_of, text_of, property_of, constant_of, negative_of, date_of, symbol_of, operator_of, json_of, negative_json_of, Phrase, ◌▸◌, nothing, one, keyword, sign}
 use Rattle.flight_syntax.specs.Tree.{Tree, Trees, TreeProps, TreePairs, Declaration, let_in, if_else, for_in, throw, member, index, atom, variable, client, array, object, map, set, source, promise, stream, action, action_with, paren, binary, element, too_deep, too_many, no_trees, tree_and, no_props, prop_and, no_pairs, pair_and, server, client_is, action_is, joined, postfixes, IsBase, IsElement}
 
 -- so many expressions, child elements or json values may nest, and so many postfixes stand on one atom

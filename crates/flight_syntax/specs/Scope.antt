@@ -1,10 +1,10 @@
 -- What the names of a program stand for: the tree with names and the term with numbers.
-use Rattle.std.specs.Prelude.{ℕ, ◌≡◌, ◌≢◌, ◌<◌, true, List, [], ◌∷◌, ◌++◌, slice_get, codes, Some}
-use Rattle.json.specs.Json.{Json}
+use Rattle.std.specs.Prelude.{ℕ, suc, ◌≡◌, ◌≢◌, ◌<◌, Bool, true, false, if◌then◌else◌, List, [], ◌∷◌, ◌++◌, map, slice_get, codes, Option, Some, None, option_map}
+use Rattle.std.specs.Str.{bytes_eq}
 use Rattle.flight_syntax.specs.declared.expr.Tag.{Tag}
 use Rattle.flight_syntax.specs.declared.expr.Tag.TheVariants.{Host, Server, Client, Suspense}
 use Rattle.flight_syntax.specs.Names.{is_lower}
-use Rattle.flight_syntax.specs.Words.{Placed}
+use Rattle.flight_syntax.specs.Lexicon.{Placed}
 use Rattle.flight_syntax.specs.Term as term
 use Rattle.flight_syntax.specs.Term.{Term, Terms, Props, Pairs}
 use Rattle.flight_syntax.specs.Tree as tree
@@ -15,42 +15,44 @@ pub record IsInnermost (scope : List (List ℕ)) (named : List ℕ) (number : �
   pub here : slice_get scope number ≡ Some named
   pub innermost : (later : ℕ) → number < later → slice_get scope later ≢ Some named
 
--- the declaration at a position has that name and is a server component, a client component or an action
-abbrev pub IsServer : List Declaration → ℕ → List ℕ → Type 0
-IsServer all number named = (at : ℕ) × (params : List Placed) × (body : Tree) × (slice_get all number ≡ Some (tree.server (record { bytes = named; at = at }) params body))
+-- whether a declaration is a server component, a client component or an action of that name
+abbrev pub is_server : List ℕ → Declaration → Bool
+is_server named (tree.server name params body) = bytes_eq name.bytes named
+is_server named _ = false
 
-abbrev pub IsClient : List Declaration → ℕ → List ℕ → Type 0
-IsClient all number named = (at : ℕ) × (import : Json) × (slice_get all number ≡ Some (tree.client_is (record { bytes = named; at = at }) import))
+abbrev pub is_client : List ℕ → Declaration → Bool
+is_client named (tree.client_is name import) = bytes_eq name.bytes named
+is_client named _ = false
 
-abbrev pub IsAction : List Declaration → ℕ → List ℕ → Type 0
-IsAction all number named = (at : ℕ) × (params : List Placed) × (body : Tree) × (slice_get all number ≡ Some (tree.action_is (record { bytes = named; at = at }) params body))
+abbrev pub is_action : List ℕ → Declaration → Bool
+is_action named (tree.action_is name params body) = bytes_eq name.bytes named
+is_action named _ = false
+
+-- where the first such declaration stands, from 0
+abbrev pub number_of : (Declaration → Bool) → List Declaration → Option ℕ
+number_of test [] = None
+number_of test (first ∷ rest) = if test first then Some 0 else option_map suc (number_of test rest)
+
+-- the server component, the client component and the action of a name
+abbrev pub server_number : List Declaration → List ℕ → Option ℕ
+server_number all named = number_of (is_server named) all
+
+abbrev pub client_number : List Declaration → List ℕ → Option ℕ
+client_number all named = number_of (is_client named) all
+
+abbrev pub action_number : List Declaration → List ℕ → Option ℕ
+action_number all named = number_of (is_action named) all
+
+-- what a name that begins with a capital letter stands for as a tag
+abbrev pub component_tag : Option ℕ → Option ℕ → Bool → Option Tag
+component_tag (Some number) client suspense = Some (Server number)
+component_tag None (Some number) suspense = Some (Client number)
+component_tag None None true = Some Suspense
+component_tag None None false = None
 
 -- what a tag stands for: a lower name is an element of the host
-abbrev pub TagIs : List Declaration → List ℕ → Tag → Type 0
-TagIs all named (Host text) = (is_lower named ≡ true) × (text ≡ named)
-TagIs all named (Server number) = IsServer all number named
-TagIs all named (Client number) = IsClient all number named
-TagIs all named Suspense = named ≡ codes "Suspense"
-
--- no property has the name
-abbrev pub HasNone : List ℕ → TreeProps → Type 0
-HasNone named tree.no_props = Unit {0}
-HasNone named (tree.prop_and other value rest) = (named ≢ other.bytes) × HasNone named rest
-
--- no property comes twice
-abbrev pub HasNoneTwice : TreeProps → Type 0
-HasNoneTwice tree.no_props = Unit {0}
-HasNoneTwice (tree.prop_and named value rest) = HasNone named.bytes rest × HasNoneTwice rest
-
--- no attribute `children` stands beside children
-abbrev pub HasChildrenOnce : TreeProps → Trees → Type 0
-HasChildrenOnce attrs tree.no_trees = Unit {0}
-HasChildrenOnce attrs (tree.tree_and first rest) = HasNone (codes "children") attrs
-
--- a server component has no key
-abbrev pub HasNoKey : Tag → TreeProps → Type 0
-HasNoKey (Server number) attrs = HasNone (codes "key") attrs
-HasNoKey _ attrs = Unit {0}
+abbrev pub tag_of : List Declaration → List ℕ → Option Tag
+tag_of all named = if is_lower named then Some (Host named) else component_tag (server_number all named) (client_number all named) (bytes_eq named (codes "Suspense"))
 
 -- a tree and a term that say the same, under declarations and the variables in scope
 abbrev mutual
@@ -63,20 +65,19 @@ abbrev mutual
   Means all scope (tree.index of at) (term.index o a) = Means all scope of o × Means all scope at a
   Means all scope (tree.atom value) (term.atom a) = a ≡ value
   Means all scope (tree.variable named) (term.variable number) = IsInnermost scope named.bytes number
-  Means all scope (tree.client named) (term.client number) = IsClient all number named.bytes
+  Means all scope (tree.client named) (term.client number) = client_number all named.bytes ≡ Some number
   Means all scope (tree.array items) (term.array ts) = MeansEach all scope items ts
-  Means all scope (tree.object props) (term.object ps) = HasNoneTwice props × MeansProps all scope props ps
+  Means all scope (tree.object props) (term.object ps) = MeansProps all scope props ps
   Means all scope (tree.map pairs) (term.map ps) = MeansPairs all scope pairs ps
   Means all scope (tree.set items) (term.set ts) = MeansEach all scope items ts
   Means all scope (tree.source named) (term.source n) = n ≡ named.bytes
   Means all scope (tree.promise named) (term.promise n) = n ≡ named.bytes
   Means all scope (tree.stream named) (term.stream n) = n ≡ named.bytes
-  Means all scope (tree.action named) (term.action number) = IsAction all number named.bytes
-  Means all scope (tree.action_with named bound) (term.action_with number ts) = IsAction all number named.bytes × MeansEach all scope bound ts
+  Means all scope (tree.action named) (term.action number) = action_number all named.bytes ≡ Some number
+  Means all scope (tree.action_with named bound) (term.action_with number ts) = (action_number all named.bytes ≡ Some number) × MeansEach all scope bound ts
   Means all scope (tree.paren inside) (term.paren t) = Means all scope inside t
   Means all scope (tree.binary op left right) (term.binary o l r) = (o ≡ op) × Means all scope left l × Means all scope right r
-  Means all scope (tree.element named attrs children) (term.element tag ps ts) =
-      TagIs all named.bytes tag × HasNoneTwice attrs × HasChildrenOnce attrs children × HasNoKey tag attrs × MeansProps all scope attrs ps × MeansEach all scope children ts
+  Means all scope (tree.element named attrs children) (term.element tag ps ts) = (tag_of all named.bytes ≡ Some tag) × MeansProps all scope attrs ps × MeansEach all scope children ts
   Means all scope _ _ = ⊥
 
   pub MeansEach : List Declaration → List (List ℕ) → Trees → Terms → Type 0

@@ -4,7 +4,7 @@ use Rattle.flight_value.specs.declared.graph.Atom.{Atom}
 use Rattle.flight_syntax.specs.declared.expr.Op.{Op}
 use Rattle.json.specs.Json as json
 use Rattle.json.specs.Json.{Json}
-use Rattle.flight_syntax.specs.Words.{Placed}
+use Rattle.flight_syntax.specs.Lexicon.{Placed}
 
 -- an expression
 mutual
