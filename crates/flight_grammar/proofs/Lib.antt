@@ -13,4 +13,5 @@ pub mod Atoms
 pub mod Levels
 pub mod Values
 pub mod Programs
+pub mod Outcomes
 pub mod Example

@@ -179,7 +179,7 @@ exact_all = exact_many Declares starts_declaration never declaration (record { f
 -- ---- what the words come to
 
 -- what spells a program is read as that program
-again : (all : List Declaration) (words : List Word) → DeclaresAll all words → all_of words ≡ Ok (all, [])
+pub again : (all : List Declaration) (words : List Word) → DeclaresAll all words → all_of words ≡ Ok (all, [])
 again all words m = ap all_of (sym (append-nil words)) ∙ exact_all.complete all words [] (declared_back all words m) refl
 
 pub verdict : (words : List Word) → Verdict words (program words)

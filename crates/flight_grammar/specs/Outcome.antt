@@ -1,12 +1,12 @@
 -- What a text comes to: the program that it is, or its first fault.
-use Rattle.std.specs.Prelude.{ℕ, ◌-◌, ◌≡◌, true, false, Bool, List, [], ◌∷◌, length, drop}
+use Rattle.std.specs.Prelude.{ℕ, ◌-◌, ◌≡◌, true, false, Bool, List, [], ◌∷◌, length, drop, Some}
 use Rattle.flight_syntax.specs.declared.token.Token.{Token}
 use Rattle.flight_syntax.specs.declared.token.LexFault.{LexFault}
 use Rattle.flight_syntax.specs.Tokens.{AreTokens, HasFault}
 use Rattle.flight_syntax.specs.Lexicon.{words_of}
 use Rattle.flight_syntax.specs.Tree.{Declaration}
 use Rattle.flight_syntax.specs.Grammar.{DeclaresAll}
-use Rattle.flight_syntax.specs.Faults.{NameFault, program_faults, has_app, IsFirst}
+use Rattle.flight_syntax.specs.Faults.{NameFault, program_faults, has_app, first_fault}
 use Rattle.flight_syntax.specs.Derives.{Said, IsProgram}
 use Rattle.flight_grammar.specs.Verdict.{StopsAt}
 
@@ -47,7 +47,7 @@ abbrev pub ComesTo : List ℕ → Outcome → Type 0
 ComesTo text (lexed fault) = HasFault text fault
 ComesTo text (unexpected place) = StopsIn text false place
 ComesTo text (too_deep place) = StopsIn text true place
-ComesTo text (misnamed fault) = (all : List Declaration) × IsSpelled text all × IsFirst fault (program_faults all)
+ComesTo text (misnamed fault) = (all : List Declaration) × IsSpelled text all × (first_fault (program_faults all) ≡ Some fault)
 ComesTo text no_app = (all : List Declaration) × IsSpelled text all × (program_faults all ≡ []) × (has_app all ≡ false)
 ComesTo text (program declared) = IsProgram text declared
 

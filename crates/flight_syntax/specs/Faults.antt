@@ -1,5 +1,5 @@
 -- The faults of a program's names: a name that is unknown, a name that comes twice, a key on a server component.
-use Rattle.std.specs.Prelude.{ℕ, ◌≡◌, ◌≤◌, ◌⊎◌, ◌||◌, Bool, true, false, if◌then◌else◌, List, [], ◌∷◌, ◌++◌, codes}
+use Rattle.std.specs.Prelude.{ℕ, ◌||◌, Bool, true, false, if◌then◌else◌, List, [], ◌∷◌, ◌++◌, codes, nat_lt, Option, Some, None}
 use Rattle.std.specs.List.{list_any}
 use Rattle.std.specs.Str.{bytes_eq}
 use Rattle.flight_syntax.specs.Names.{is_lower}
@@ -150,17 +150,12 @@ program_faults all = repeated [] (components all) ++ (repeated [] (actions all) 
 abbrev pub has_app : List Declaration → Bool
 has_app all = is_named (codes "App") (servers all)
 
--- a fault stands before these, or where they stand
-abbrev pub IsBeforeAll : NameFault → List NameFault → Type 0
-IsBeforeAll fault [] = Unit {0}
-IsBeforeAll fault (other ∷ others) = (place fault ≤ place other) × IsBeforeAll fault others
+-- of two faults the one that stands first, and of two at one place the first
+abbrev pub earlier : NameFault → Option NameFault → Option NameFault
+earlier fault None = Some fault
+earlier fault (Some other) = if nat_lt (place other) (place fault) then Some other else Some fault
 
--- one of these faults
-abbrev pub IsOneOf : NameFault → List NameFault → Type 0
-IsOneOf fault [] = ⊥
-IsOneOf fault (other ∷ others) = (fault ≡ other) ⊎ IsOneOf fault others
-
--- one of these faults, and none stands before it
-pub record IsFirst (fault : NameFault) (all : List NameFault) : Type 0 where
-  pub is_one : IsOneOf fault all
-  pub is_least : IsBeforeAll fault all
+-- the fault that stands first
+abbrev pub first_fault : List NameFault → Option NameFault
+first_fault [] = None
+first_fault (fault ∷ others) = earlier fault (first_fault others)
