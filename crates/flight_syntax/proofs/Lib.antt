@@ -10,3 +10,4 @@ pub mod Readings
 pub mod Example
 pub mod Spellings
 pub mod Terms
+pub mod Meanings

@@ -1,68 +1,72 @@
 -- The productions: which words spell a tree. The number of a phrase is how many levels of nesting are left.
-use Rattle.std.specs.Prelude.{ℕ, zero, suc, ◌≡◌, ◌≢◌, ◌≤◌, ◌⊎◌, true, false, List, [], ◌∷◌, ◌++◌, codes}
+use Rattle.std.specs.Prelude.{ℕ, zero, suc, ◌≡◌, ◌<◌, ◌⊎◌, true, false, List, [], ◌∷◌}
+use Rattle.flight_value.specs.declared.graph.Atom.{Atom}
 use Rattle.flight_value.specs.declared.graph.Atom.TheVariants as value
+use Rattle.flight_syntax.specs.declared.word.Keyword.TheVariants.{Date, Symbol, Let, In, If, Then, Else, For, Give, Throw, Map, Set, Use, Promise, Stream, Action, With, Server, Client}
+use Rattle.flight_syntax.specs.declared.word.Punctuator.{Punctuator}
+use Rattle.flight_syntax.specs.declared.word.Punctuator.TheVariants.{OpenParen, CloseParen, OpenBracket, CloseBracket, OpenBrace, CloseBrace, Comma, Semicolon, Colon, Dot, Assign, Minus, Less, Greater, LessSlash, SlashGreater}
 use Rattle.json.specs.Json as json
-use Rattle.flight_syntax.specs.declared.token.TokenKind.TheVariants.{Number}
-use Rattle.flight_syntax.specs.Pieces.{IsNumber}
-use Rattle.flight_syntax.specs.Words.{Phrase, ◌▸◌, nothing, one, mark, name, plain_name, lower, upper, literal, constant, operator}
-use Rattle.flight_syntax.specs.Tree.{Tree, Trees, TreeProps, TreePairs, Declaration, let_in, if_else, for_in, throw, member, index, atom, variable, client, array, object, map, set, source, promise, stream, action, action_with, paren, binary, element, no_trees, tree_and, no_props, prop_and, no_pairs, pair_and, server, client_is, action_is, postfixes, IsBase, IsElement}
+use Rattle.flight_syntax.specs.Lexicon.{Placed, beyond, is_deep, name_of, lower_of, upper_of, plain_of, is_plain, component_of, text_of, property_of, constant_of, negative_of, date_of, symbol_of, operator_of, json_of, negative_json_of, Phrase, ◌▸◌, nothing, one, keyword, sign}
+use Rattle.flight_syntax.specs.Tree.{Tree, Trees, TreeProps, TreePairs, Declaration, let_in, if_else, for_in, throw, member, index, atom, variable, client, array, object, map, set, source, promise, stream, action, action_with, paren, binary, element, too_deep, too_many, no_trees, tree_and, no_props, prop_and, no_pairs, pair_and, server, client_is, action_is, joined, postfixes, IsBase, IsElement}
 
 -- so many expressions, child elements or json values may nest, and so many postfixes stand on one atom
 abbrev pub most_levels : ℕ
 most_levels = 100
 
+abbrev pub most_postfixes : ℕ
+most_postfixes = 100
+
+-- the literals
+abbrev pub Constant : Atom → Phrase
+Constant a words = one constant_of a words ⊎ ((sign Minus ▸ one negative_of a) words ⊎ ((keyword Date ▸ one date_of a) words ⊎ (keyword Symbol ▸ one symbol_of a) words))
+
 -- a text without braces, as an attribute's value or a child
 abbrev pub Bare : Tree → Phrase
-Bare (atom (value.Text text)) words = literal text words
-Bare _ words = ⊥
+Bare tree words = (text : Placed) × (atom (value.Text text.bytes) ≡ tree) × one text_of text words
 
--- the name of a property
-abbrev pub PropertyName : List ℕ → Phrase
-PropertyName named words = name named words ⊎ literal named words
-
--- parts of an attribute's name
-abbrev pub Parts : List (List ℕ) → Phrase
-Parts [] words = ⊥
-Parts (part ∷ []) words = name part words
-Parts (part ∷ parts) words = (name part ▸ mark (codes "-") ▸ Parts parts) words
-
--- parts joined by `-`
-abbrev pub joined : List (List ℕ) → List ℕ
-joined [] = []
-joined (part ∷ []) = part
-joined (part ∷ parts) = part ++ 45 ∷ joined parts
+-- parts of an attribute's name, behind the first
+abbrev pub MoreParts : List Placed → Phrase
+MoreParts [] words = nothing words
+MoreParts (part ∷ parts) words = ((sign Minus ▸ one name_of part) ▸ MoreParts parts) words
 
 -- the name of an attribute
-abbrev pub AttributeName : List ℕ → Phrase
-AttributeName named words = (parts : List (List ℕ)) × (named ≡ joined parts) × Parts parts words
+abbrev pub AttributeName : Placed → Phrase
+AttributeName named words = (first : Placed) × (parts : List Placed) × (joined first parts ≡ named) × (one name_of first ▸ MoreParts parts) words
+
+-- a mark that would begin what is beyond a limit
+abbrev pub Beyond : Punctuator → Phrase
+Beyond mark words = words ≡ beyond mark ∷ []
 
 -- expressions
 abbrev mutual
   pub Spells : Tree → ℕ → Phrase
-  Spells tree zero words = ⊥
-  Spells (let_in named bound rest) (suc d) words = (name (codes "let") ▸ lower named ▸ mark (codes "=") ▸ Spells bound d ▸ name (codes "in") ▸ Spells rest d) words
-  Spells (if_else test yes_one other) (suc d) words = (name (codes "if") ▸ Spells test d ▸ name (codes "then") ▸ Spells yes_one d ▸ name (codes "else") ▸ Spells other d) words
-  Spells (for_in named over give) (suc d) words = (name (codes "for") ▸ lower named ▸ name (codes "in") ▸ Spells over d ▸ name (codes "give") ▸ Spells give d) words
-  Spells (throw thrown) (suc d) words = (name (codes "throw") ▸ Spells thrown d) words
-  Spells (member of named) (suc d) words = IsBase of × (postfixes (member of named) ≤ most_levels) × (Spells of (suc d) ▸ mark (codes ".") ▸ name named) words
-  Spells (index of at) (suc d) words = IsBase of × (postfixes (index of at) ≤ most_levels) × (Spells of (suc d) ▸ mark (codes "[") ▸ Spells at d ▸ mark (codes "]")) words
-  Spells (atom a) (suc d) words = constant a words
-  Spells (variable named) (suc d) words = lower named words
-  Spells (client named) (suc d) words = upper named words
-  Spells (array items) (suc d) words = (mark (codes "[") ▸ Listed items d ▸ mark (codes "]")) words
-  Spells (object props) (suc d) words = (mark (codes "{") ▸ Properties props d ▸ mark (codes "}")) words
-  Spells (map pairs) (suc d) words = (name (codes "map") ▸ mark (codes "[") ▸ Entries pairs d ▸ mark (codes "]")) words
-  Spells (set items) (suc d) words = (name (codes "set") ▸ mark (codes "[") ▸ Listed items d ▸ mark (codes "]")) words
-  Spells (source named) (suc d) words = (name (codes "use") ▸ plain_name named) words
-  Spells (promise named) (suc d) words = (name (codes "promise") ▸ plain_name named) words
-  Spells (stream named) (suc d) words = (name (codes "stream") ▸ plain_name named) words
-  Spells (action named) (suc d) words = (name (codes "action") ▸ lower named) words
-  Spells (action_with named bound) (suc d) words = (name (codes "action") ▸ lower named ▸ name (codes "with") ▸ mark (codes "[") ▸ Listed bound d ▸ mark (codes "]")) words
-  Spells (paren inside) (suc d) words = (mark (codes "(") ▸ Spells inside d ▸ mark (codes ")")) words
-  Spells (binary op left right) (suc d) words = (mark (codes "(") ▸ Spells left d ▸ operator op ▸ Spells right d ▸ mark (codes ")")) words
+  Spells too_deep zero words = one is_deep tt words
+  Spells _ zero words = ⊥
+  Spells too_deep (suc d) words = ⊥
+  Spells (let_in named bound rest) (suc d) words = (keyword Let ▸ one lower_of named ▸ sign Assign ▸ Spells bound d ▸ keyword In ▸ Spells rest d) words
+  Spells (if_else test yes_one other) (suc d) words = (keyword If ▸ Spells test d ▸ keyword Then ▸ Spells yes_one d ▸ keyword Else ▸ Spells other d) words
+  Spells (for_in named over give) (suc d) words = (keyword For ▸ one lower_of named ▸ keyword In ▸ Spells over d ▸ keyword Give ▸ Spells give d) words
+  Spells (throw thrown) (suc d) words = (keyword Throw ▸ Spells thrown d) words
+  Spells (member of named) (suc d) words = IsBase of × (postfixes of < most_postfixes) × (Spells of (suc d) ▸ sign Dot ▸ one name_of named) words
+  Spells (index of at) (suc d) words = IsBase of × (postfixes of < most_postfixes) × (Spells of (suc d) ▸ sign OpenBracket ▸ Spells at d ▸ sign CloseBracket) words
+  Spells (too_many of) (suc d) words = IsBase of × (Spells of (suc d) ▸ (λ x. Beyond Dot x ⊎ Beyond OpenBracket x)) words
+  Spells (atom a) (suc d) words = Constant a words
+  Spells (variable named) (suc d) words = one lower_of named words
+  Spells (client named) (suc d) words = one upper_of named words
+  Spells (array items) (suc d) words = (sign OpenBracket ▸ Listed items d ▸ sign CloseBracket) words
+  Spells (object props) (suc d) words = (sign OpenBrace ▸ Properties props d ▸ sign CloseBrace) words
+  Spells (map pairs) (suc d) words = (keyword Map ▸ sign OpenBracket ▸ Entries pairs d ▸ sign CloseBracket) words
+  Spells (set items) (suc d) words = (keyword Set ▸ sign OpenBracket ▸ Listed items d ▸ sign CloseBracket) words
+  Spells (source named) (suc d) words = (keyword Use ▸ one plain_of named) words
+  Spells (promise named) (suc d) words = (keyword Promise ▸ one plain_of named) words
+  Spells (stream named) (suc d) words = (keyword Stream ▸ one plain_of named) words
+  Spells (action named) (suc d) words = (keyword Action ▸ one lower_of named) words
+  Spells (action_with named bound) (suc d) words = (keyword Action ▸ one lower_of named ▸ keyword With ▸ sign OpenBracket ▸ Listed bound d ▸ sign CloseBracket) words
+  Spells (paren inside) (suc d) words = (sign OpenParen ▸ Spells inside d ▸ sign CloseParen) words
+  Spells (binary op left right) (suc d) words = (sign OpenParen ▸ Spells left d ▸ one operator_of op ▸ Spells right d ▸ sign CloseParen) words
   Spells (element tag attrs children) (suc d) words =
-      ((children ≡ no_trees) × (mark (codes "<") ▸ plain_name tag ▸ Attributes attrs d ▸ mark (codes "/>")) words)
-      ⊎ (mark (codes "<") ▸ plain_name tag ▸ Attributes attrs d ▸ mark (codes ">") ▸ Children children d ▸ mark (codes "</") ▸ plain_name tag ▸ mark (codes ">")) words
+      (sign Less ▸ one plain_of tag ▸ Attributes attrs d
+      ▸ (λ x. ((children ≡ no_trees) × sign SlashGreater x) ⊎ (sign Greater ▸ Children children d ▸ sign LessSlash ▸ one (is_plain tag.bytes) tt ▸ sign Greater) x)) words
 
   -- expressions with commas between
   pub Listed : Trees → ℕ → Phrase
@@ -71,54 +75,48 @@ abbrev mutual
 
   pub MoreListed : Trees → ℕ → Phrase
   MoreListed no_trees d words = nothing words
-  MoreListed (tree_and tree trees) d words = (mark (codes ",") ▸ Spells tree d ▸ MoreListed trees d) words
+  MoreListed (tree_and tree trees) d words = ((sign Comma ▸ Spells tree d) ▸ MoreListed trees d) words
 
   -- properties with commas between
   pub Properties : TreeProps → ℕ → Phrase
   Properties no_props d words = nothing words
-  Properties (prop_and named given props) d words = (PropertyName named ▸ mark (codes ":") ▸ Spells given d ▸ MoreProperties props d) words
+  Properties (prop_and named given props) d words = ((one property_of named ▸ sign Colon ▸ Spells given d) ▸ MoreProperties props d) words
 
   pub MoreProperties : TreeProps → ℕ → Phrase
   MoreProperties no_props d words = nothing words
-  MoreProperties (prop_and named given props) d words = (mark (codes ",") ▸ PropertyName named ▸ mark (codes ":") ▸ Spells given d ▸ MoreProperties props d) words
+  MoreProperties (prop_and named given props) d words = ((sign Comma ▸ one property_of named ▸ sign Colon ▸ Spells given d) ▸ MoreProperties props d) words
 
   -- entries with commas between
   pub Entries : TreePairs → ℕ → Phrase
   Entries no_pairs d words = nothing words
-  Entries (pair_and key given pairs) d words = (mark (codes "[") ▸ Spells key d ▸ mark (codes ",") ▸ Spells given d ▸ mark (codes "]") ▸ MoreEntries pairs d) words
+  Entries (pair_and key given pairs) d words = ((sign OpenBracket ▸ Spells key d ▸ sign Comma ▸ Spells given d ▸ sign CloseBracket) ▸ MoreEntries pairs d) words
 
   pub MoreEntries : TreePairs → ℕ → Phrase
   MoreEntries no_pairs d words = nothing words
-  MoreEntries (pair_and key given pairs) d words = (mark (codes ",") ▸ mark (codes "[") ▸ Spells key d ▸ mark (codes ",") ▸ Spells given d ▸ mark (codes "]") ▸ MoreEntries pairs d) words
+  MoreEntries (pair_and key given pairs) d words = ((sign Comma ▸ sign OpenBracket ▸ Spells key d ▸ sign Comma ▸ Spells given d ▸ sign CloseBracket) ▸ MoreEntries pairs d) words
 
   -- attributes, one after another, each a text or an expression in braces
   pub Attributes : TreeProps → ℕ → Phrase
   Attributes no_props d words = nothing words
-  Attributes (prop_and named given props) d words = (AttributeName named ▸ mark (codes "=") ▸ (λ x. Bare given x ⊎ (mark (codes "{") ▸ Spells given d ▸ mark (codes "}")) x) ▸ Attributes props d) words
+  Attributes (prop_and named given props) d words = ((AttributeName named ▸ sign Assign ▸ (λ x. Bare given x ⊎ (sign OpenBrace ▸ Spells given d ▸ sign CloseBrace) x)) ▸ Attributes props d) words
 
-  -- children, one after another, each a text, an element or an expression in braces
+  -- children, one after another, each a text, an expression in braces or an element
   pub Children : Trees → ℕ → Phrase
   Children no_trees d words = nothing words
-  Children (tree_and tree trees) d words = ((λ x. Bare tree x ⊎ (IsElement tree × Spells tree d x) ⊎ (mark (codes "{") ▸ Spells tree d ▸ mark (codes "}")) x) ▸ Children trees d) words
+  Children (tree_and tree trees) d words =
+      ((λ x. (Bare tree x ⊎ (sign OpenBrace ▸ Spells tree d ▸ sign CloseBrace) x) ⊎ ((IsElement tree × Spells tree d x) ⊎ ((tree ≡ too_deep) × Beyond Less x))) ▸ Children trees d) words
 
--- digits in front of which a minus may stand in JSON: those of no 0
-abbrev pub Digits : List ℕ → Phrase
-Digits digits words = (n : ℕ) × IsNumber digits n × one Number digits words
-
-abbrev pub JsonNumber : List ℕ → Phrase
-JsonNumber digits words = Digits digits words ⊎ ((rest : List ℕ) × (digits ≡ 45 ∷ rest) × (rest ≢ codes "0") × (mark (codes "-") ▸ Digits rest) words)
-
--- JSON
+-- JSON; at level 0 `null` stands for what is nested too deep
 abbrev mutual
   pub SpellsJson : json.Json → ℕ → Phrase
-  SpellsJson j zero words = ⊥
-  SpellsJson json.null (suc d) words = name (codes "null") words
-  SpellsJson (json.boolean true) (suc d) words = name (codes "true") words
-  SpellsJson (json.boolean false) (suc d) words = name (codes "false") words
-  SpellsJson (json.number digits) (suc d) words = JsonNumber digits words
-  SpellsJson (json.string text) (suc d) words = literal text words
-  SpellsJson (json.array items) (suc d) words = (mark (codes "[") ▸ JsonItems items d ▸ mark (codes "]")) words
-  SpellsJson (json.object members) (suc d) words = (mark (codes "{") ▸ JsonMembers members d ▸ mark (codes "}")) words
+  SpellsJson json.null zero words = one is_deep tt words
+  SpellsJson _ zero words = ⊥
+  SpellsJson json.null (suc d) words = one json_of json.null words
+  SpellsJson (json.boolean b) (suc d) words = one json_of (json.boolean b) words
+  SpellsJson (json.number digits) (suc d) words = one json_of (json.number digits) words ⊎ (sign Minus ▸ one negative_json_of (json.number digits)) words
+  SpellsJson (json.string text) (suc d) words = one json_of (json.string text) words
+  SpellsJson (json.array items) (suc d) words = (sign OpenBracket ▸ JsonItems items d ▸ sign CloseBracket) words
+  SpellsJson (json.object members) (suc d) words = (sign OpenBrace ▸ JsonMembers members d ▸ sign CloseBrace) words
 
   pub JsonItems : json.Items → ℕ → Phrase
   JsonItems json.no_items d words = nothing words
@@ -126,34 +124,30 @@ abbrev mutual
 
   pub MoreJsonItems : json.Items → ℕ → Phrase
   MoreJsonItems json.no_items d words = nothing words
-  MoreJsonItems (json.item j items) d words = (mark (codes ",") ▸ SpellsJson j d ▸ MoreJsonItems items d) words
+  MoreJsonItems (json.item j items) d words = ((sign Comma ▸ SpellsJson j d) ▸ MoreJsonItems items d) words
 
   pub JsonMembers : json.Members → ℕ → Phrase
   JsonMembers json.no_members d words = nothing words
-  JsonMembers (json.member key j members) d words = (literal key ▸ mark (codes ":") ▸ SpellsJson j d ▸ MoreJsonMembers members d) words
+  JsonMembers (json.member key j members) d words = (((λ x. (at : ℕ) × one text_of (record { bytes = key; at = at }) x) ▸ sign Colon ▸ SpellsJson j d) ▸ MoreJsonMembers members d) words
 
   pub MoreJsonMembers : json.Members → ℕ → Phrase
   MoreJsonMembers json.no_members d words = nothing words
-  MoreJsonMembers (json.member key j members) d words = (mark (codes ",") ▸ literal key ▸ mark (codes ":") ▸ SpellsJson j d ▸ MoreJsonMembers members d) words
+  MoreJsonMembers (json.member key j members) d words = ((sign Comma ▸ (λ x. (at : ℕ) × one text_of (record { bytes = key; at = at }) x) ▸ sign Colon ▸ SpellsJson j d) ▸ MoreJsonMembers members d) words
 
 -- parameters with commas between
-abbrev pub MoreParameters : List (List ℕ) → Phrase
+abbrev pub MoreParameters : List Placed → Phrase
 MoreParameters [] words = nothing words
-MoreParameters (param ∷ params) words = (mark (codes ",") ▸ lower param ▸ MoreParameters params) words
+MoreParameters (param ∷ params) words = ((sign Comma ▸ one lower_of param) ▸ MoreParameters params) words
 
-abbrev pub Parameters : List (List ℕ) → Phrase
+abbrev pub Parameters : List Placed → Phrase
 Parameters [] words = nothing words
-Parameters (param ∷ params) words = (lower param ▸ MoreParameters params) words
-
--- the name of a component, which `Suspense` is not
-abbrev pub ComponentName : List ℕ → Phrase
-ComponentName named words = (named ≢ codes "Suspense") × upper named words
+Parameters (param ∷ params) words = (one lower_of param ▸ MoreParameters params) words
 
 -- a declaration
 abbrev pub Declares : Declaration → Phrase
-Declares (server named params body) words = (name (codes "server") ▸ ComponentName named ▸ mark (codes "(") ▸ Parameters params ▸ mark (codes ")") ▸ mark (codes "=") ▸ Spells body most_levels ▸ mark (codes ";")) words
-Declares (client_is named import) words = (name (codes "client") ▸ ComponentName named ▸ mark (codes "=") ▸ SpellsJson import most_levels ▸ mark (codes ";")) words
-Declares (action_is named params body) words = (name (codes "action") ▸ lower named ▸ mark (codes "(") ▸ Parameters params ▸ mark (codes ")") ▸ mark (codes "=") ▸ Spells body most_levels ▸ mark (codes ";")) words
+Declares (server named params body) words = (keyword Server ▸ one component_of named ▸ sign OpenParen ▸ Parameters params ▸ sign CloseParen ▸ sign Assign ▸ Spells body most_levels ▸ sign Semicolon) words
+Declares (client_is named import) words = (keyword Client ▸ one component_of named ▸ sign Assign ▸ SpellsJson import most_levels ▸ sign Semicolon) words
+Declares (action_is named params body) words = (keyword Action ▸ one lower_of named ▸ sign OpenParen ▸ Parameters params ▸ sign CloseParen ▸ sign Assign ▸ Spells body most_levels ▸ sign Semicolon) words
 
 -- a program
 abbrev pub DeclaresAll : List Declaration → Phrase

@@ -5,6 +5,8 @@ pub mod Term
 pub mod Tokens
 pub mod Tree
 pub mod Words
+pub mod Lexicon
 pub mod Derives
 pub mod Grammar
 pub mod Literal
+pub mod Faults

@@ -25,9 +25,11 @@ mod string;
 #[cfg(test)]
 mod tests;
 mod token;
+mod word;
 
 pub use expr::{Expr, Op, PairExpr, PropExpr, Tag};
 pub use lex::{one_reading, tokens};
 pub use program::{Declared, Program};
 pub use script::{Data, Flowing, Outcome, Script, Seen};
 pub use token::{LexFault, LexKind, Lexed, Token, TokenKind};
+pub use word::{Keyword, Punctuator};

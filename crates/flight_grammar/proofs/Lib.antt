@@ -1,0 +1,17 @@
+pub mod Exact
+pub mod Parts
+pub mod Choices
+pub mod Many
+pub mod Terminals
+pub mod Lists
+pub mod After
+pub mod Listed
+pub mod Productions
+pub mod Deep
+pub mod Postfixes
+pub mod Atoms
+pub mod Levels
+pub mod Values
+pub mod Programs
+pub mod Outcomes
+pub mod Example

@@ -1,0 +1,5 @@
+use Rattle.flight_grammar.proofs.Programs.{verdict}
+use Rattle.flight_grammar.proofs.reads_programs.Goals as goal
+
+pub returns : goal.returns
+returns c = verdict

@@ -1,0 +1,4 @@
+pub mod Reading
+pub mod Reader
+pub mod Verdict
+pub mod Outcome
