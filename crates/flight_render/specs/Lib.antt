@@ -3,3 +3,7 @@ pub mod Values
 pub mod Operators
 pub mod Eval
 pub mod Body
+pub mod Bodies
+pub mod Jobs
+pub mod Plain
+pub mod Costs
