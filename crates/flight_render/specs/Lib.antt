@@ -7,3 +7,4 @@ pub mod Bodies
 pub mod Jobs
 pub mod Plain
 pub mod Costs
+pub mod Laws
