@@ -374,3 +374,118 @@ good_bound cx action ts m g h =
       (λ array n gn up own. good_then cx.address (Own cx.address) (Own cx.address) (length n.made) (make_here cx kind.Promise (array ∷ []) n) (λ promise k. make_here cx (kind.Bound action) (promise ∷ []) k)
         (good_make cx kind.Promise (array ∷ []) n gn (own, tt))
         (λ promise k gk uk ok. good_make cx (kind.Bound action) (promise ∷ []) k gk (ok, tt)))
+
+-- ---- expressions
+
+module _ (cx : Context) (tables : TablesLeadBack [] cx.address cx.tables) where
+  good_items : (t : Tree) (m : Machine) → LeadBack cx.address 0 m.made → Own cx.address (length m.made) t → Good cx.address (AllOwn cx.address) (length m.made) (give_or_fail type_digest (items_in cx.over (known cx m) t) m)
+  good_items t m g h = good_option cx.address (AllOwn cx.address) type_digest (items_in cx.over (known cx m) t) m g (λ ts is. items-own cx.over cx.address (length m.made) cx.tables m.made tables g t h ts is)
+
+  good_index : (t i : Tree) (m : Machine) → LeadBack cx.address 0 m.made → Own cx.address (length m.made) t → Good cx.address (Own cx.address) (length m.made) (item_at cx t i m)
+  good_index t (tree.Atom (atom.Whole (pos n))) m g h =
+      good_then cx.address (AllOwn cx.address) (Own cx.address) (length m.made) (give_or_fail type_digest (items_in cx.over (known cx m) t) m) (λ items k. give_or_fail missing_digest (slice_get items n) k) (good_items t m g h)
+        (λ items k gk up own. good_option cx.address (Own cx.address) missing_digest (slice_get items n) k gk (λ x is. all_item cx.address (length k.made) items n x own is))
+  good_index t (tree.Atom (atom.Whole (negsuc n))) m g h =
+      good_then cx.address (AllOwn cx.address) (Own cx.address) (length m.made) (give_or_fail type_digest (items_in cx.over (known cx m) t) m) (λ items k. fail missing_digest k) (good_items t m g h)
+        (λ items k gk up own. record { nodes = gk; grows = omega arith; own = tt })
+  good_index t _ m g h = record { nodes = g; grows = omega arith; own = tt }
+
+  mutual
+    pub eval-good : (t : Term) (env : List Tree) (m : Machine) → LeadBack cx.address 0 m.made → AllOwn cx.address (length m.made) env → Good cx.address (Own cx.address) (length m.made) (eval cx t env m)
+    eval-good (term.let_in name value rest) env m g h =
+        good_then _ _ _ _ _ _ (eval-good value env (pay 1 m) g h)
+          (λ t n gn up own. eval-good rest (env ++ t ∷ []) n gn (all_append cx.address (length n.made) env (t ∷ []) (all_more cx.address (length m.made) (length n.made) env up h) (own, tt)))
+    eval-good (term.if_else test yes_one other) env m g h =
+        good_then _ _ _ _ _ _ (eval-good test env (pay 1 m) g h)
+          (λ t n gn up own. good_branch cx.address (Own cx.address) t (eval cx yes_one env) (eval cx other env) n gn
+            (eval-good yes_one env n gn (all_more cx.address (length m.made) (length n.made) env up h)) (eval-good other env n gn (all_more cx.address (length m.made) (length n.made) env up h)))
+    eval-good (term.for_in name over give_one) env m g h =
+        good_then _ _ _ _ _ _ (eval-good over env (pay 1 m) g h)
+          (λ t n gn up own. good_then _ _ _ _ _ _ (good_items t n gn own)
+            (λ items k gk uk ok. good_then _ _ _ _ _ _
+              (good_each cx.address (λ item l. eval cx give_one (env ++ item ∷ []) l) (length k.made)
+                (λ item l gl le oi. eval-good give_one (env ++ item ∷ []) l gl
+                  (all_append cx.address (length l.made) env (item ∷ []) (all_more cx.address (length m.made) (length l.made) env (omega (arith, up, uk, le)) h) (oi, tt)))
+                items [] k gk (omega arith) ok tt)
+              (λ ts l gl ul ol. good_make cx kind.Array ts l gl ol)))
+    eval-good (term.throw value) env m g h = good_then _ _ _ _ _ _ (eval-good value env (pay 1 m) g h) (λ t n gn up own. good_end cx.address (Own cx.address) (threw (thrown t)) n gn tt)
+    eval-good (term.member of name) env m g h =
+        good_then _ _ _ _ _ _ (eval-good of env (pay 1 m) g h)
+          (λ t n gn up own. good_option cx.address (Own cx.address) type_digest (property_in cx.over (known cx n) name t) n gn (λ x is. property-own cx.over cx.address (length n.made) cx.tables n.made tables gn name t own x is))
+    eval-good (term.index of at_one) env m g h =
+        good_then _ _ _ _ _ _ (eval-good of env (pay 1 m) g h)
+          (λ t n gn up own. good_then _ _ _ _ _ _ (eval-good at_one env n gn (all_more cx.address (length m.made) (length n.made) env up h))
+            (λ i k gk uk ok. good_index t i k gk (own_more cx.address (length n.made) (length k.made) t uk own)))
+    eval-good (term.atom a) env m g h = good_end cx.address (Own cx.address) (gave (tree.Atom a)) (pay 1 m) g tt
+    eval-good (term.variable number) env m g h = good_end cx.address (Own cx.address) (gave (unwrap_or (slice_get env number) undefined)) (pay 1 m) g (all_get cx.address (length m.made) env number h)
+    eval-good (term.client number) env m g h = good_end cx.address (Own cx.address) (gave (tree.Atom (atom.Import (import_at cx.over number)))) (pay 1 m) g tt
+    eval-good (term.array items) env m g h = good_then _ _ _ _ _ _ (all-good items env [] (pay 1 m) g h tt) (λ ts n gn up own. good_make cx kind.Array ts n gn own)
+    eval-good (term.object props) env m g h = good_then _ _ _ _ _ _ (props-good props env [] (pay 1 m) g h tt) (λ ps n gn up own. good_object cx ps n gn own)
+    eval-good (term.map pairs) env m g h = good_then _ _ _ _ _ _ (pairs-good pairs env [] (pay 1 m) g h tt) (λ ts n gn up own. good_make cx kind.Map ts n gn own)
+    eval-good (term.set items) env m g h = good_then _ _ _ _ _ _ (all-good items env [] (pay 1 m) g h tt) (λ ts n gn up own. good_make cx kind.Set ts n gn own)
+    eval-good (term.source name) env m g h =
+        good_then cx.address (λ k s. Unit {0}) (Own cx.address) (length m.made) (give_or_fail type_digest (source_named cx.over name) (pay 1 m)) (λ s n. ends (source_end cx.over cx.settled s) n)
+          (good_option cx.address (λ k s. Unit {0}) type_digest (source_named cx.over name) (pay 1 m) g (λ x is. tt))
+          (λ s n gn up own. good_end cx.address (Own cx.address) (source_end cx.over cx.settled s) n gn (source-own cx.address (length n.made) (is_settled cx.settled s) s (slice_get (outcomes cx.over) s)))
+    eval-good (term.promise name) env m g h =
+        good_then cx.address (λ k s. Unit {0}) (Own cx.address) (length m.made) (give_or_fail type_digest (source_named cx.over name) (pay 1 m)) (λ s n. give (tree.Promise s) n)
+          (good_option cx.address (λ k s. Unit {0}) type_digest (source_named cx.over name) (pay 1 m) g (λ x is. tt)) (λ s n gn up own. good_end cx.address (Own cx.address) (gave (tree.Promise s)) n gn tt)
+    eval-good (term.stream name) env m g h =
+        good_then cx.address (λ k s. Unit {0}) (Own cx.address) (length m.made) (give_or_fail type_digest (stream_named cx.over name) (pay 1 m)) (λ s n. give (tree.Stream s) n)
+          (good_option cx.address (λ k s. Unit {0}) type_digest (stream_named cx.over name) (pay 1 m) g (λ x is. tt)) (λ s n gn up own. good_end cx.address (Own cx.address) (gave (tree.Stream s)) n gn tt)
+    eval-good (term.action number) env m g h = good_end cx.address (Own cx.address) (gave (tree.Action number)) (pay 1 m) g tt
+    eval-good (term.action_with number bound) env m g h = good_then _ _ _ _ _ _ (all-good bound env [] (pay 1 m) g h tt) (λ ts n gn up own. good_bound cx number ts n gn own)
+    eval-good (term.paren inside) env m g h = eval-good inside env m g h
+    eval-good (term.binary op.And left right) env m g h =
+        good_then _ _ _ _ _ _ (eval-good left env (pay 1 m) g h)
+          (λ t n gn up own. good_branch cx.address (Own cx.address) t (eval cx right env) (give t) n gn (eval-good right env n gn (all_more cx.address (length m.made) (length n.made) env up h)) (good_end cx.address (Own cx.address) (gave t) n gn own))
+    eval-good (term.binary op.Or left right) env m g h =
+        good_then _ _ _ _ _ _ (eval-good left env (pay 1 m) g h)
+          (λ t n gn up own. good_branch cx.address (Own cx.address) t (give t) (eval cx right env) n gn (good_end cx.address (Own cx.address) (gave t) n gn own) (eval-good right env n gn (all_more cx.address (length m.made) (length n.made) env up h)))
+    eval-good (term.binary op.Plus left right) env m g h =
+        good_then _ _ _ _ _ _ (eval-good left env (pay 1 m) g h) (λ x n gn up own. good_then _ _ _ _ _ _ (eval-good right env n gn (all_more cx.address (length m.made) (length n.made) env up h)) (λ y k gk uk ok. good_atom cx.address (operated op.Plus x y) k gk))
+    eval-good (term.binary op.Minus left right) env m g h =
+        good_then _ _ _ _ _ _ (eval-good left env (pay 1 m) g h) (λ x n gn up own. good_then _ _ _ _ _ _ (eval-good right env n gn (all_more cx.address (length m.made) (length n.made) env up h)) (λ y k gk uk ok. good_atom cx.address (operated op.Minus x y) k gk))
+    eval-good (term.binary op.Times left right) env m g h =
+        good_then _ _ _ _ _ _ (eval-good left env (pay 1 m) g h) (λ x n gn up own. good_then _ _ _ _ _ _ (eval-good right env n gn (all_more cx.address (length m.made) (length n.made) env up h)) (λ y k gk uk ok. good_atom cx.address (operated op.Times x y) k gk))
+    eval-good (term.binary op.Equal left right) env m g h =
+        good_then _ _ _ _ _ _ (eval-good left env (pay 1 m) g h) (λ x n gn up own. good_then _ _ _ _ _ _ (eval-good right env n gn (all_more cx.address (length m.made) (length n.made) env up h)) (λ y k gk uk ok. good_atom cx.address (operated op.Equal x y) k gk))
+    eval-good (term.binary op.Less left right) env m g h =
+        good_then _ _ _ _ _ _ (eval-good left env (pay 1 m) g h) (λ x n gn up own. good_then _ _ _ _ _ _ (eval-good right env n gn (all_more cx.address (length m.made) (length n.made) env up h)) (λ y k gk uk ok. good_atom cx.address (operated op.Less x y) k gk))
+    eval-good (term.element t attrs children) env m g h =
+        good_then _ _ _ _ _ _ (attrs-good attrs env (record { key = tree.Atom atom.Null; props = [] }) (pay 1 m) g h (tt, tt))
+          (λ more n gn up own. good_then _ _ _ _ _ _ (all-good children env [] n gn (all_more cx.address (length m.made) (length n.made) env up h) tt)
+            (λ inside k gk uk ok. good_then _ _ _ _ _ _
+              (good_children cx more inside k gk (own_more cx.address (length n.made) (length k.made) more.key uk own.0, props_more cx.address (length n.made) (length k.made) more.props uk own.1) ok)
+              (λ x l gl ul ol. good_element cx t x l gl ol)))
+
+    pub all-good : (ts : Terms) (env so_far : List Tree) (m : Machine) → LeadBack cx.address 0 m.made → AllOwn cx.address (length m.made) env → AllOwn cx.address (length m.made) so_far → Good cx.address (AllOwn cx.address) (length m.made) (eval_all cx ts env so_far m)
+    all-good term.no_terms env so_far m g h k = good_end cx.address (AllOwn cx.address) (gave so_far) m g k
+    all-good (term.term_and t rest) env so_far m g h k =
+        good_then _ _ _ _ _ _ (eval-good t env m g h)
+          (λ v n gn up own. all-good rest env (so_far ++ v ∷ []) n gn (all_more cx.address (length m.made) (length n.made) env up h)
+            (all_append cx.address (length n.made) so_far (v ∷ []) (all_more cx.address (length m.made) (length n.made) so_far up k) (own, tt)))
+
+    pub props-good : (ts : Props) (env : List Tree) (so_far : List (List ℕ × Tree)) (m : Machine) → LeadBack cx.address 0 m.made → AllOwn cx.address (length m.made) env → PropsOwn cx.address (length m.made) so_far → Good cx.address (PropsOwn cx.address) (length m.made) (eval_props cx ts env so_far m)
+    props-good term.no_props env so_far m g h k = good_end cx.address (PropsOwn cx.address) (gave so_far) m g k
+    props-good (term.prop_and name t rest) env so_far m g h k =
+        good_then _ _ _ _ _ _ (eval-good t env m g h)
+          (λ v n gn up own. props-good rest env (so_far ++ (name, v) ∷ []) n gn (all_more cx.address (length m.made) (length n.made) env up h)
+            (props_append cx.address (length n.made) so_far (name, v) (props_more cx.address (length m.made) (length n.made) so_far up k) own))
+
+    pub pairs-good : (ts : Pairs) (env so_far : List Tree) (m : Machine) → LeadBack cx.address 0 m.made → AllOwn cx.address (length m.made) env → AllOwn cx.address (length m.made) so_far → Good cx.address (AllOwn cx.address) (length m.made) (eval_pairs cx ts env so_far m)
+    pairs-good term.no_pairs env so_far m g h k = good_end cx.address (AllOwn cx.address) (gave so_far) m g k
+    pairs-good (term.pair_and key value rest) env so_far m g h k =
+        good_then _ _ _ _ _ _ (eval-good key env m g h)
+          (λ x n gn up own. good_then _ _ _ _ _ _ (eval-good value env n gn (all_more cx.address (length m.made) (length n.made) env up h))
+            (λ v l gl ul ol. pairs-good rest env (so_far ++ x ∷ v ∷ []) l gl (all_more cx.address (length m.made) (length l.made) env (omega (arith, up, ul)) h)
+              (all_append cx.address (length l.made) so_far (x ∷ v ∷ []) (all_more cx.address (length m.made) (length l.made) so_far (omega (arith, up, ul)) k)
+                (own_more cx.address (length n.made) (length l.made) x ul own, (ol, tt)))))
+
+    pub attrs-good : (ts : Props) (env : List Tree) (so_far : Attributes) (m : Machine) → LeadBack cx.address 0 m.made → AllOwn cx.address (length m.made) env → AttributesOwn cx.address (length m.made) so_far → Good cx.address (AttributesOwn cx.address) (length m.made) (eval_attrs cx ts env so_far m)
+    attrs-good term.no_props env so_far m g h k = good_end cx.address (AttributesOwn cx.address) (gave so_far) m g k
+    attrs-good (term.prop_and name t rest) env so_far m g h k =
+        good_then _ _ _ _ _ _ (eval-good t env m g h)
+          (λ v n gn up own. good_then cx.address (AttributesOwn cx.address) (AttributesOwn cx.address) (length n.made) (with_attribute so_far name v n) (λ more l. eval_attrs cx rest env more l)
+            (good_attribute cx.address so_far name v n gn (own_more cx.address (length m.made) (length n.made) so_far.key up k.0, props_more cx.address (length m.made) (length n.made) so_far.props up k.1) own)
+            (λ more l gl ul ol. attrs-good rest env more l gl (all_more cx.address (length m.made) (length l.made) env (omega (arith, up, ul)) h) ol))
