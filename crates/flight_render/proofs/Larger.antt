@@ -1,0 +1,234 @@
+-- What is rendered with few sources settled is rendered alike with more.
+use Rattle.std.proofs.Common.{◌≡◌, ◌≢◌, ℕ, zero, suc, Bool, true, false, cond, nat_lt, length, ◌⊎◌, inl, inr, List, [], ◌∷◌, ◌++◌, map, Option, Some, None, slice_get, refl, sym, ap, ap₂, ◌∙◌, subst}
+use Rattle.std.specs.Prelude.{option_map, option_and_then}
+use Rattle.std.proofs.lemmas.Option.{none-some}
+use Rattle.std.proofs.lemmas.Bool.{false≢true}
+use Rattle.flight_value.specs.Store as target
+use Rattle.flight_value.specs.Store.{Target, Shape, Label}
+use Rattle.flight_value.specs.declared.graph.Slot.{Slot}
+use Rattle.flight_value.specs.declared.key.Key.{Key}
+use Rattle.flight_value.specs.declared.key.Key.TheVariants as key
+use Rattle.flight_value.specs.declared.made.Made.{Made}
+use Rattle.flight_value.specs.declared.made.Tree.{Tree}
+use Rattle.flight_value.specs.declared.made.Tree.TheVariants as tree
+use Rattle.flight_value.specs.declared.name.Name.{Name}
+use Rattle.flight_syntax.specs.declared.script.Flowing.{Flowing}
+use Rattle.flight_render.specs.declared.root.Ground.{Ground}
+use Rattle.flight_render.specs.Run.{Step, gave, threw, waits, Run, End, give, fail, pay}
+use Rattle.flight_render.specs.Values.{is_settled, end_if, source_end, outcomes, arguments}
+use Rattle.flight_render.specs.Operators.{depth_digest}
+use Rattle.flight_render.specs.Eval.{Context}
+use Rattle.flight_render.specs.Body.{Start, started, run_start, component_start, root_start, body, root_body, fresh, give_last}
+use Rattle.flight_render.specs.Bodies.{inner, element_of, Finishes, is_finished, finished, made_by, tables_with, next_body, body_below, body_at, node_at, tables_below, tables_at, tables_for, TabledFor}
+use Rattle.flight_render.specs.Jobs.{Job, the_root, element, outcome, known, blank, Value, shown, of_job, failed, stopped, IsFinal, is_server, job_of, job_body, comes, value_of, Leads, target_of, IsTarget, Stands}
+use Rattle.flight_render.specs.Plain.{Flowed, flow_slots, last_job, flow_last, flow_item, flow, made_shape, flow_shape, shape_at, NodeIs}
+use Rattle.flight_render.specs.Costs.{In, Reached, at_root, through, in_slot, Rendered, address_of}
+use Rattle.flight_render.specs.Laws.{Grows, Stays}
+use Rattle.flight_render.proofs.Grows.{keeps, with_settled, eval-keeps, source-keeps}
+use Rattle.flight_render.proofs.Names.{some-injective}
+
+-- ---- bodies
+
+start-keeps : (cx : Context) (many : List Bool) → Grows cx.settled many → (o : Option Start) → Stays many (run_start cx o).step → run_start (with_settled cx many) o ≡ run_start cx o
+start-keeps cx many g None w = refl
+start-keeps cx many g (Some x) w = go (nat_lt (length cx.address) 200) w
+  where
+    go : (b : Bool) → Stays many (cond b (started cx x) (fail depth_digest fresh)).step → cond b (started (with_settled cx many) x) (fail depth_digest fresh) ≡ cond b (started cx x) (fail depth_digest fresh)
+    go true q = keeps many _ _ _ _ (eval-keeps cx many g x.expression x.env fresh) (λ t m z. refl) q
+    go false q = refl
+
+pub body-keeps : (g : Ground) (few many : List Bool) → Grows few many → (tables : List (List Made)) (c : ℕ) (props : Tree) (at : List ℕ) → Stays many (body g few tables c props at).step → body g many tables c props at ≡ body g few tables c props at
+unfolding body
+body-keeps g few many gr tables c props at w =
+    start-keeps (record { over = g; settled = few; address = at; tables = tables }) many gr (component_start g tables (slice_get g.program.declared c) props) w
+
+pub root-keeps : (g : Ground) (few many : List Bool) → Grows few many → Stays many (root_body g few).step → root_body g many ≡ root_body g few
+unfolding root_body
+root-keeps g few many gr w = start-keeps (record { over = g; settled = few; address = []; tables = [] }) many gr (root_start g g.root) w
+
+-- ---- the body at an address
+
+pub no_body_below : (g : Ground) (s : List Bool) (tables : List (List Made)) (at a : List ℕ) (b : Run Tree) → body_below g s tables at None a ≡ Some b → ⊥
+no_body_below g s tables at [] b h = none-some b h
+no_body_below g s tables at (i ∷ a) b h = no_body_below g s tables (at ++ i ∷ []) a b h
+
+abbrev pub Keeps : List Bool → Option (Run Tree) → Option (Run Tree) → Type 0
+Keeps many x y = (b : Run Tree) → x ≡ Some b → Stays many b.step → y ≡ Some b
+
+pub finished-is : (b : Run Tree) → is_finished b.step ≡ true → finished (Some b) ≡ Some b
+finished-is b h = ap (λ z. cond z (Some b) None) h
+
+pub finished-stays : (many : List Bool) (e : End) → is_finished e ≡ true → Stays many e
+finished-stays many (gave t) h = tt
+finished-stays many (threw d) h = tt
+finished-stays many (waits s) h = absurd (false≢true h)
+
+pub next-keeps : (g : Ground) (few many : List Bool) → Grows few many → (tables : List (List Made)) (at : List ℕ) (o : Option (ℕ × Tree)) → Keeps many (next_body g few tables at o) (next_body g many tables at o)
+next-keeps g few many gr tables at None b h w = absurd (none-some b h)
+next-keeps g few many gr tables at (Some k) b h w =
+    let same = some-injective _ b h in
+    ap Some (body-keeps g few many gr tables k.0 k.1 at (subst (λ z. Stays many z.step) (sym same) w)) ∙ h
+
+below-keeps : (g : Ground) (few many : List Bool) → Grows few many → (a : List ℕ) (tables : List (List Made)) (at : List ℕ) (x y : Option (Run Tree)) → Keeps many x y → Keeps many (body_below g few tables at x a) (body_below g many tables at y a)
+below-keeps g few many gr [] tables at x y k b h w = k b h w
+below-keeps g few many gr (i ∷ a) tables at None y k b h w = absurd (no_body_below g few tables (at ++ i ∷ []) a b h)
+below-keeps g few many gr (i ∷ a) tables at (Some x) y k b h w = go (is_finished x.step) refl
+    (λ t o. below-keeps g few many gr a t (at ++ i ∷ []) (next_body g few t (at ++ i ∷ []) o) (next_body g many t (at ++ i ∷ []) o) (next-keeps g few many gr t (at ++ i ∷ []) o) b)
+  where
+    go : (c : Bool) → is_finished x.step ≡ c
+        → ((t : List (List Made)) (o : Option (ℕ × Tree)) → body_below g few t (at ++ i ∷ []) (next_body g few t (at ++ i ∷ []) o) a ≡ Some b → Stays many b.step → body_below g many t (at ++ i ∷ []) (next_body g many t (at ++ i ∷ []) o) a ≡ Some b)
+        → body_below g many tables at y (i ∷ a) ≡ Some b
+    go true e rest =
+        let same : y ≡ Some x = k x refl (finished-stays many x.step e) in
+        let is : finished (Some x) ≡ Some x = finished-is x e in
+        subst (λ z. body_below g many tables at z (i ∷ a) ≡ Some b) (sym same)
+          (subst (λ z. body_below g many (tables_with tables z) (at ++ i ∷ []) (next_body g many (tables_with tables z) (at ++ i ∷ []) (element_of (made_by z i))) a ≡ Some b) (sym is)
+            (rest (tables_with tables (Some x)) (element_of (made_by (Some x) i))
+              (subst (λ z. body_below g few (tables_with tables z) (at ++ i ∷ []) (next_body g few (tables_with tables z) (at ++ i ∷ []) (element_of (made_by z i))) a ≡ Some b) is h) w))
+    go false e rest =
+        let is : finished (Some x) ≡ None = ap (λ z. cond z (Some x) None) e in
+        absurd (no_body_below g few (tables_with tables None) (at ++ i ∷ []) a b
+          (subst (λ z. body_below g few (tables_with tables z) (at ++ i ∷ []) (next_body g few (tables_with tables z) (at ++ i ∷ []) (element_of (made_by z i))) a ≡ Some b) is h))
+
+root-Keeps : (g : Ground) (few many : List Bool) → Grows few many → Keeps many (Some (root_body g few)) (Some (root_body g many))
+root-Keeps g few many gr b is w =
+    let same = some-injective _ b is in
+    ap Some (root-keeps g few many gr (subst (λ z. Stays many z.step) (sym same) w)) ∙ is
+
+pub body_at-keeps : (g : Ground) (few many : List Bool) → Grows few many → (a : List ℕ) (b : Run Tree) → body_at g few a ≡ Some b → Stays many b.step → body_at g many a ≡ Some b
+unfolding body_at
+body_at-keeps g few many gr a b h w = below-keeps g few many gr a [] [] (Some (root_body g few)) (Some (root_body g many)) (root-Keeps g few many gr) b h w
+
+-- a node that is there was made by a body that finishes
+pub node_body : (g : Ground) (s : List Bool) (n : Name) (m : Made) → node_at g s n ≡ Some m → (b : Run Tree) × (body_at g s n.render ≡ Some b) × (is_finished b.step ≡ true) × (slice_get b.after.made n.serial ≡ Some m)
+unfolding node_at
+node_body g s n m h = go (body_at g s n.render) refl h
+  where
+    finish : (b : Run Tree) → body_at g s n.render ≡ Some b → (c : Bool) → is_finished b.step ≡ c → made_by (cond c (Some b) None) n.serial ≡ Some m → (b : Run Tree) × (body_at g s n.render ≡ Some b) × (is_finished b.step ≡ true) × (slice_get b.after.made n.serial ≡ Some m)
+    finish b is true e w = (b, is, e, w)
+    finish b is false e w = absurd (none-some m w)
+    go : (o : Option (Run Tree)) → body_at g s n.render ≡ o → made_by (finished o) n.serial ≡ Some m → (b : Run Tree) × (body_at g s n.render ≡ Some b) × (is_finished b.step ≡ true) × (slice_get b.after.made n.serial ≡ Some m)
+    go None is w = absurd (none-some m w)
+    go (Some b) is w = finish b is (is_finished b.step) refl w
+
+pub node_at-keeps : (g : Ground) (few many : List Bool) → Grows few many → (n : Name) (m : Made) → node_at g few n ≡ Some m → node_at g many n ≡ Some m
+unfolding node_at
+node_at-keeps g few many gr n m h =
+    let b = node_body g few n m h in
+    ap (λ z. made_by (finished z) n.serial) (body_at-keeps g few many gr n.render b.0 b.1 (finished-stays many b.0.step b.2)) ∙ ap (λ z. made_by z n.serial) (finished-is b.0 b.2) ∙ b.3
+
+-- ---- the tables on the way to a body
+
+below-tables : (g : Ground) (few many : List Bool) → Grows few many → (a : List ℕ) (tables : List (List Made)) (at : List ℕ) (x y : Option (Run Tree)) → Keeps many x y → (b : Run Tree) → body_below g few tables at x a ≡ Some b → tables_below g few tables at x a ≡ tables_below g many tables at y a
+below-tables g few many gr [] tables at x y k b h = refl
+below-tables g few many gr (i ∷ a) tables at None y k b h = absurd (no_body_below g few tables (at ++ i ∷ []) a b h)
+below-tables g few many gr (i ∷ a) tables at (Some x) y k b h = go (is_finished x.step) refl
+    (λ t o. below-tables g few many gr a t (at ++ i ∷ []) (next_body g few t (at ++ i ∷ []) o) (next_body g many t (at ++ i ∷ []) o) (next-keeps g few many gr t (at ++ i ∷ []) o) b)
+  where
+    go : (c : Bool) → is_finished x.step ≡ c
+        → ((t : List (List Made)) (o : Option (ℕ × Tree)) → body_below g few t (at ++ i ∷ []) (next_body g few t (at ++ i ∷ []) o) a ≡ Some b
+            → tables_below g few t (at ++ i ∷ []) (next_body g few t (at ++ i ∷ []) o) a ≡ tables_below g many t (at ++ i ∷ []) (next_body g many t (at ++ i ∷ []) o) a)
+        → tables_below g few tables at (Some x) (i ∷ a) ≡ tables_below g many tables at y (i ∷ a)
+    go true e rest =
+        let same : y ≡ Some x = k x refl (finished-stays many x.step e) in
+        let is : finished (Some x) ≡ Some x = finished-is x e in
+        subst (λ z. tables_below g few tables at (Some x) (i ∷ a) ≡ tables_below g many tables at z (i ∷ a)) (sym same)
+          (subst (λ z. tables_below g few (tables_with tables z) (at ++ i ∷ []) (next_body g few (tables_with tables z) (at ++ i ∷ []) (element_of (made_by z i))) a
+                     ≡ tables_below g many (tables_with tables z) (at ++ i ∷ []) (next_body g many (tables_with tables z) (at ++ i ∷ []) (element_of (made_by z i))) a) (sym is)
+            (rest (tables_with tables (Some x)) (element_of (made_by (Some x) i))
+              (subst (λ z. body_below g few (tables_with tables z) (at ++ i ∷ []) (next_body g few (tables_with tables z) (at ++ i ∷ []) (element_of (made_by z i))) a ≡ Some b) is h)))
+    go false e rest =
+        let is : finished (Some x) ≡ None = ap (λ z. cond z (Some x) None) e in
+        absurd (no_body_below g few (tables_with tables None) (at ++ i ∷ []) a b
+          (subst (λ z. body_below g few (tables_with tables z) (at ++ i ∷ []) (next_body g few (tables_with tables z) (at ++ i ∷ []) (element_of (made_by z i))) a ≡ Some b) is h))
+
+tables_at-keeps : (g : Ground) (few many : List Bool) → Grows few many → (a : List ℕ) (b : Run Tree) → body_at g few a ≡ Some b → tables_at g few a ≡ tables_at g many a
+unfolding body_at tables_at
+tables_at-keeps g few many gr a b h = below-tables g few many gr a [] [] (Some (root_body g few)) (Some (root_body g many)) (root-Keeps g few many gr) b h
+
+pub tables_for-keeps : (g : Ground) (few many : List Bool) → Grows few many → (n : Name) (m : Made) → node_at g few n ≡ Some m → tables_for g few n ≡ tables_for g many n
+tables_for-keeps g few many gr n m h =
+    let b = node_body g few n m h in
+    ap₂ tables_with (tables_at-keeps g few many gr n.render b.0 b.1) (ap finished (b.1 ∙ sym (body_at-keeps g few many gr n.render b.0 b.1 (finished-stays many b.0.step b.2))))
+
+pub tabled-keeps : (g : Ground) (few many : List Bool) → Grows few many → (n : Name) (ts : List (List Made)) → TabledFor g few n ts → TabledFor g many n ts
+tabled-keeps g few many gr n ts x = ((x.0.0, node_at-keeps g few many gr n x.0.0 x.0.1), x.1 ∙ tables_for-keeps g few many gr n x.0.0 x.0.1)
+
+-- ---- jobs and chains
+
+pub job_of-keeps : (g : Ground) (few many : List Bool) → Grows few many → (x : Value) (j : Job) → job_of g few x ≡ Some j → job_of g many x ≡ Some j
+job_of-keeps g few many gr (of_job k) j h = h
+job_of-keeps g few many gr (shown (tree.Atom a)) j h = absurd (none-some j h)
+job_of-keeps g few many gr (shown (tree.FromSource s q)) j h = absurd (none-some j h)
+job_of-keeps g few many gr (shown (tree.Promise s)) j h = absurd (none-some j h)
+job_of-keeps g few many gr (shown (tree.Stream s)) j h = absurd (none-some j h)
+job_of-keeps g few many gr (shown (tree.Action s)) j h = absurd (none-some j h)
+job_of-keeps g few many gr (failed d) j h = absurd (none-some j h)
+job_of-keeps g few many gr (stopped s) j h = absurd (none-some j h)
+job_of-keeps g few many gr (shown (tree.Made n)) j h = go (node_at g few n) refl h
+  where
+    go : (o : Option Made) → node_at g few n ≡ o → cond (is_server o) (Some (element n)) None ≡ Some j → job_of g many (shown (tree.Made n)) ≡ Some j
+    go None is w = absurd (none-some j w)
+    go (Some m) is w = ap (λ z. cond (is_server z) (Some (element n)) None) (node_at-keeps g few many gr n m is) ∙ w
+
+-- the node that a value names is there
+abbrev pub IsThere : Ground → List Bool → Value → Type 0
+IsThere g s (shown (tree.Made n)) = (m : Made) × (node_at g s n ≡ Some m)
+IsThere g s _ = Unit {0}
+
+pub job_of-none : (g : Ground) (few many : List Bool) → Grows few many → (x : Value) → IsThere g few x → job_of g few x ≡ None → job_of g many x ≡ None
+job_of-none g few many gr (of_job k) t h = h
+job_of-none g few many gr (shown (tree.Atom a)) t h = refl
+job_of-none g few many gr (shown (tree.FromSource s q)) t h = refl
+job_of-none g few many gr (shown (tree.Promise s)) t h = refl
+job_of-none g few many gr (shown (tree.Stream s)) t h = refl
+job_of-none g few many gr (shown (tree.Action s)) t h = refl
+job_of-none g few many gr (failed d) t h = refl
+job_of-none g few many gr (stopped s) t h = refl
+job_of-none g few many gr (shown (tree.Made n)) t h =
+    ap (λ z. cond (is_server z) (Some (element n)) None) (node_at-keeps g few many gr n t.0 t.1) ∙ ap (λ z. cond (is_server z) (Some (element n)) None) (sym t.1) ∙ h
+
+mapped : (o : Option (Run Tree)) (h : End) → option_map (λ b. b.step) o ≡ Some h → (b : Run Tree) × (o ≡ Some b) × (b.step ≡ h)
+mapped None h w = absurd (none-some h w)
+mapped (Some b) h w = (b, refl, some-injective b.step h w)
+
+-- what comes of a body comes of it with more sources settled
+body-comes : (g : Ground) (few many : List Bool) → Grows few many → (a : List ℕ) (h : End) → option_map (λ b. b.step) (body_at g few a) ≡ Some h → Stays many h → option_map (λ b. b.step) (body_at g many a) ≡ Some h
+body-comes g few many gr a h c w =
+    let b = mapped (body_at g few a) h c in
+    ap (λ z. option_map (λ x. x.step) z) (body_at-keeps g few many gr a b.0 b.1 (subst (Stays many) (sym b.2) w)) ∙ ap Some b.2
+
+pub comes-keeps : (g : Ground) (few many : List Bool) → Grows few many → (j : Job) (h : End) → comes g few j ≡ Some h → Stays many h → comes g many j ≡ Some h
+unfolding comes
+comes-keeps g few many gr (outcome i) h c w =
+    ap Some (source-keeps few many gr i (slice_get (outcomes g) i) (subst (Stays many) (sym (some-injective (source_end g few i) h c)) w)) ∙ c
+comes-keeps g few many gr (known s) h c w = c
+comes-keeps g few many gr blank h c w = c
+comes-keeps g few many gr the_root h c w = body-comes g few many gr [] h c w
+comes-keeps g few many gr (element n) h c w = body-comes g few many gr (inner n) h c w
+
+-- what goes on does not wait
+goes_on : (g : Ground) (s many : List Bool) (k : Job) (h : End) (js : List Job) (f : Value) → Leads g s (value_of g s k h) js f → IsFinal f → Stays many h
+goes_on g s many k (gave t) js f l w = tt
+goes_on g s many k (threw d) js f l w = tt
+goes_on g s many k (waits i) [] f l w = absurd (elim (subst IsFinal (sym l) w) [ ])
+goes_on g s many k (waits i) (j ∷ js) f l w = absurd (none-some j l.0)
+
+-- what a job comes to by an end is the same with more sources settled
+value-keeps : (g : Ground) (few many : List Bool) (j : Job) (h : End) → value_of g many j h ≡ value_of g few j h
+value-keeps g few many j (gave t) = refl
+value-keeps g few many j (threw d) = refl
+value-keeps g few many j (waits s) = refl
+
+pub leads-keeps : (g : Ground) (few many : List Bool) → Grows few many → (x : Value) (js : List Job) (f : Value) → Leads g few x js f → IsFinal f → Leads g many x js f
+leads-keeps g few many gr x [] f l w = l
+leads-keeps g few many gr x (j ∷ js) f l w =
+    (job_of-keeps g few many gr x j l.0,
+      (l.1.0, comes-keeps g few many gr j l.1.0 l.1.1 (goes_on g few many j l.1.0 js f l.1.2 w),
+        subst (λ z. Leads g many z js f) (sym (value-keeps g few many j l.1.0)) (leads-keeps g few many gr (value_of g few j l.1.0) js f l.1.2 w)))
+
+pub has_job-final : (g : Ground) (s : List Bool) (x : Value) (j : Job) → job_of g s x ≡ Some j → IsFinal x
+has_job-final g s (of_job k) j h = tt
+has_job-final g s (shown t) j h = tt
+has_job-final g s (failed d) j h = tt
+has_job-final g s (stopped i) j h = absurd (none-some j h)
