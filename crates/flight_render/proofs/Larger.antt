@@ -23,7 +23,7 @@ use Rattle.flight_render.specs.Bodies.{inner, element_of, Finishes, is_finished,
 use Rattle.flight_render.specs.Jobs.{Job, the_root, element, outcome, known, blank, Value, shown, of_job, failed, stopped, IsFinal, is_server, job_of, job_body, comes, value_of, Leads, target_of, IsTarget, Stands}
 use Rattle.flight_render.specs.Plain.{Flowed, flow_slots, last_job, flow_last, flow_item, flow, made_shape, flow_shape, shape_at, NodeIs}
 use Rattle.flight_render.specs.Costs.{In, Reached, at_root, through, in_slot, Rendered, address_of}
-use Rattle.flight_render.specs.Laws.{Grows, Stays}
+use Rattle.flight_render.specs.Laws.{Grows, Stays, IsLasting}
 use Rattle.flight_render.proofs.Grows.{keeps, with_settled, eval-keeps, source-keeps}
 use Rattle.flight_render.proofs.Names.{some-injective}
 
@@ -232,3 +232,123 @@ has_job-final g s (of_job k) j h = tt
 has_job-final g s (shown t) j h = tt
 has_job-final g s (failed d) j h = tt
 has_job-final g s (stopped i) j h = absurd (none-some j h)
+
+-- ---- nodes
+
+shape_there : (g : Ground) (o : Option Made) (shape : Shape Value) → option_and_then (made_shape g) o ≡ Some shape → (m : Made) × (o ≡ Some m)
+shape_there g None shape h = absurd (none-some shape h)
+shape_there g (Some m) shape h = (m, refl)
+
+pub node-keeps : (g : Ground) (few many : List Bool) → Grows few many → (k : Key) (shape : Shape Value) → IsLasting k → NodeIs g few k shape → NodeIs g many k shape
+node-keeps g few many gr (key.Stream i) shape lasting h = elim lasting [ ]
+node-keeps g few many gr (key.Source i q) shape lasting h = h
+node-keeps g few many gr (key.Settled i) shape lasting h = h
+node-keeps g few many gr (key.Action i) shape lasting h = h
+node-keeps g few many gr (key.Client i) shape lasting h = h
+node-keeps g few many gr (key.Symbol i) shape lasting h = h
+node-keeps g few many gr (key.Server i) shape lasting h = h
+node-keeps g few many gr (key.Made n) shape lasting h =
+    let m = shape_there g (node_at g few n) shape h in
+    ap (option_and_then (made_shape g)) (node_at-keeps g few many gr n m.0 m.1) ∙ ap (option_and_then (made_shape g)) (sym m.1) ∙ h
+
+key_or : Target Key → Key → Key
+key_or (target.node_at i) d = i
+key_or (target.atom a) d = d
+
+IsAtom : Target Key → Type 0
+IsAtom (target.atom a) = Unit {0}
+IsAtom (target.node_at i) = ⊥
+
+pub there_by-shape : (g : Ground) (s : List Bool) (x : Value) (k : Key) (shape : Shape Value) → target.node_at k ≡ target_of x → NodeIs g s k shape → IsThere g s x
+unfolding key_or
+there_by-shape g s (shown (tree.Made n)) k shape is at =
+    shape_there g (node_at g s n) shape (ap (shape_at g s) (sym (ap (λ z. key_or z k) is)) ∙ at)
+there_by-shape g s (shown (tree.Atom a)) k shape is at = tt
+there_by-shape g s (shown (tree.FromSource i q)) k shape is at = tt
+there_by-shape g s (shown (tree.Promise i)) k shape is at = tt
+there_by-shape g s (shown (tree.Stream i)) k shape is at = tt
+there_by-shape g s (shown (tree.Action i)) k shape is at = tt
+there_by-shape g s (of_job j) k shape is at = tt
+there_by-shape g s (failed d) k shape is at = tt
+there_by-shape g s (stopped i) k shape is at = tt
+
+pub node-final : (x : Value) (k : Key) → target.node_at k ≡ target_of x → IsFinal x
+unfolding IsAtom
+node-final (shown t) k is = tt
+node-final (of_job j) k is = tt
+node-final (failed d) k is = tt
+node-final (stopped i) k is = elim (subst IsAtom (sym is) tt) [ ]
+
+end-stays : (g : Ground) (s many : List Bool) (j : Job) (h : End) → IsFinal (value_of g s j h) → Stays many h
+end-stays g s many j (gave t) w = tt
+end-stays g s many j (threw d) w = tt
+end-stays g s many j (waits i) w = absurd (elim w [ ])
+
+-- ---- streams: the slots that there are with few sources are there with more
+
+last-keeps : (g : Ground) (few many : List Bool) → Grows few many → (j : Job) (x : Value) → In x (flow_slots (flow_last j (comes g few j))) → In x (flow_slots (flow_last j (comes g many j)))
+last-keeps g few many gr j x i = go (comes g few j) refl i
+  where
+    go : (o : Option End) → comes g few j ≡ o → In x (flow_slots (flow_last j o)) → In x (flow_slots (flow_last j (comes g many j)))
+    go None e k = elim k [ ]
+    go (Some (threw d)) e k = elim k [ ]
+    go (Some (waits s)) e k = elim k [ ]
+    go (Some (gave t)) e k = subst (λ z. In x (flow_slots (flow_last j z))) (sym (comes-keeps g few many gr j (gave t) e tt)) k
+
+flow-keeps : (g : Ground) (few many : List Bool) → Grows few many → (is : List ℕ) (last : Option ℕ) (x : Value) → In x (flow_slots (flow g few is last)) → In x (flow_slots (flow g many is last))
+flow-keeps g few many gr [] last x i = last-keeps g few many gr (last_job last) x i
+flow-keeps g few many gr (s ∷ rest) last x i = go (comes g few (outcome s)) refl i (flow-keeps g few many gr rest last x)
+  where
+    go : (o : Option End) → comes g few (outcome s) ≡ o → In x (flow_slots (flow_item (outcome s) o (flow g few rest last)))
+        → (In x (flow_slots (flow g few rest last)) → In x (flow_slots (flow g many rest last)))
+        → In x (flow_slots (flow_item (outcome s) (comes g many (outcome s)) (flow g many rest last)))
+    go None e k later = elim k [ ]
+    go (Some (threw d)) e k later = elim k [ ]
+    go (Some (waits n)) e k later = elim k [ ]
+    go (Some (gave t)) e (inl q) later = subst (λ z. In x (flow_slots (flow_item (outcome s) z (flow g many rest last)))) (sym (comes-keeps g few many gr (outcome s) (gave t) e tt)) (inl q)
+    go (Some (gave t)) e (inr k) later = subst (λ z. In x (flow_slots (flow_item (outcome s) z (flow g many rest last)))) (sym (comes-keeps g few many gr (outcome s) (gave t) e tt)) (inr (later k))
+
+-- a slot of a node is a slot of that node with more sources settled
+pub slot-keeps : (g : Ground) (few many : List Bool) → Grows few many → (k : Key) (shape : Shape Value) (x : Value) → NodeIs g few k shape → In x shape.slots → (after : Shape Value) × (NodeIs g many k after) × In x after.slots
+slot-keeps g few many gr (key.Made n) shape x h i = (shape, node-keeps g few many gr (key.Made n) shape tt h, i)
+slot-keeps g few many gr (key.Source n q) shape x h i = (shape, h, i)
+slot-keeps g few many gr (key.Settled n) shape x h i = (shape, h, i)
+slot-keeps g few many gr (key.Action n) shape x h i = (shape, h, i)
+slot-keeps g few many gr (key.Client n) shape x h i = (shape, h, i)
+slot-keeps g few many gr (key.Symbol n) shape x h i = (shape, h, i)
+slot-keeps g few many gr (key.Server n) shape x h i = (shape, h, i)
+slot-keeps g few many gr (key.Stream f) shape x h i = go (slice_get g.script.streams f) h
+  where
+    go : (o : Option Flowing) → option_map (flow_shape g few) o ≡ Some shape → (after : Shape Value) × (option_map (flow_shape g many) o ≡ Some after) × In x after.slots
+    go None e = absurd (none-some shape e)
+    go (Some fl) e = (_, refl, flow-keeps g few many gr fl.items fl.last x (subst (λ z. In x z.slots) (sym (some-injective _ shape e)) i))
+
+-- ---- what is reached, rendered and counted
+
+pub reached-keeps : (g : Ground) (few many : List Bool) → Grows few many → (x : Value) → Reached g few x → IsFinal x → Reached g many x
+reached-keeps g few many gr x at_root w = at_root
+reached-keeps g few many gr x (through {v = d} {j = j} {end = h} y is by) w =
+    subst (Reached g many) (value-keeps g few many j h)
+      (through (reached-keeps g few many gr d y (has_job-final g few d j is)) (job_of-keeps g few many gr d j is) (comes-keeps g few many gr j h by (end-stays g few many j h w)))
+reached-keeps g few many gr x (in_slot {v = d} {k = k} {shape = shape} y stops is at among) w =
+    let after = slot-keeps g few many gr k shape x at among in
+    in_slot (reached-keeps g few many gr d y (node-final d k is)) (job_of-none g few many gr d (there_by-shape g few d k shape is at) stops) is after.1 after.2
+
+pub finishes-stays : (many : List Bool) (h : End) → Finishes h → Stays many h
+finishes-stays many (gave t) w = tt
+finishes-stays many (threw d) w = tt
+finishes-stays many (waits i) w = absurd (elim w [ ])
+
+pub rendered-keeps : (g : Ground) (few many : List Bool) → Grows few many → (a : List ℕ) (c : ℕ) → Rendered g few a c → Rendered g many a c
+rendered-keeps g few many gr a c x =
+    record {
+      here = x.here;
+      is_body = body_at-keeps g few many gr a x.here x.is_body (finishes-stays many x.here.step x.finishes);
+      finishes = x.finishes;
+      costs = x.costs;
+      job = x.job;
+      addressed = x.addressed;
+      value = x.value;
+      met = reached-keeps g few many gr x.value x.met (has_job-final g few x.value x.job x.is_job);
+      is_job = job_of-keeps g few many gr x.value x.job x.is_job;
+    }

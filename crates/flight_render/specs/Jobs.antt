@@ -1,12 +1,11 @@
 -- What is rendered or waited for on its own, and what a slot stands for.
-use Rattle.std.specs.Prelude.{ℕ, ◌≡◌, Bool, true, false, if◌then◌else◌, List, [], ◌∷◌, length, Option, Some, None, option_map}
+use Rattle.std.specs.Prelude.{ℕ, ◌≡◌, Bool, true, false, if◌then◌else◌, List, [], ◌∷◌, length, Option, Some, None, is_some, option_map}
 use Rattle.flight_value.specs.Store.{Target}
 use Rattle.flight_value.specs.Store as target
 use Rattle.flight_value.specs.declared.graph.Atom.TheVariants as atom
 use Rattle.flight_value.specs.declared.graph.Slot.{Slot}
 use Rattle.flight_value.specs.declared.key.Key.{Key}
 use Rattle.flight_value.specs.declared.key.Key.TheVariants as key
-use Rattle.flight_value.specs.declared.made.MadeKind.TheVariants as kind
 use Rattle.flight_value.specs.declared.made.Made.{Made}
 use Rattle.flight_value.specs.declared.made.Tree.{Tree}
 use Rattle.flight_value.specs.declared.made.Tree.TheVariants as tree
@@ -15,7 +14,7 @@ use Rattle.flight_syntax.specs.declared.script.Outcome.{Outcome}
 use Rattle.flight_render.specs.declared.root.Ground.{Ground}
 use Rattle.flight_render.specs.Run.{Step, gave, threw, waits, Run, End}
 use Rattle.flight_render.specs.Values.{arguments, tree_of, source_end, undefined}
-use Rattle.flight_render.specs.Bodies.{inner, body_at, node_at}
+use Rattle.flight_render.specs.Bodies.{inner, element_of, body_at, node_at}
 
 -- the root, a server element, the outcome of a source, a slot of the arguments that a promise there holds, and the
 -- final value of a stream that has none
@@ -38,9 +37,9 @@ abbrev pub IsFinal : Value → Type 0
 IsFinal (stopped source) = ⊥
 IsFinal _ = Unit {0}
 
+-- whether a node is a server element
 abbrev pub is_server : Option Made → Bool
-is_server None = false
-is_server (Some m) = elim m.kind [ kind.Server component ↦ true | kind.Array ↦ false | kind.Object names ↦ false | kind.Map ↦ false | kind.Set ↦ false | kind.Element ↦ false | kind.Promise ↦ false | kind.Bound action ↦ false ]
+is_server o = is_some (element_of o)
 
 -- the job that a value is: that which it waits for, or that of a server element
 abbrev pub job_of : Ground → List Bool → Value → Option Job

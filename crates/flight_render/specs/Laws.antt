@@ -1,5 +1,7 @@
 -- What the laws of rendering speak of.
 use Rattle.std.specs.Prelude.{ℕ, suc, ◌≡◌, ◌<◌, ◌⊎◌, Bool, true, false, List, [], ◌∷◌, ◌++◌, length}
+use Rattle.flight_value.specs.declared.key.Key.{Key}
+use Rattle.flight_value.specs.declared.key.Key.TheVariants as key
 use Rattle.flight_value.specs.declared.made.Made.{Made}
 use Rattle.flight_value.specs.declared.made.Tree.{Tree}
 use Rattle.flight_value.specs.declared.made.Tree.TheVariants as tree
@@ -45,7 +47,15 @@ TablesLeadBack above [] [] = Unit {0}
 TablesLeadBack above (i ∷ address) (made ∷ tables) = LeadBack above 0 made × TablesLeadBack (above ++ i ∷ []) address tables
 TablesLeadBack above _ _ = ⊥
 
--- a body names only its own lesser nodes, and nodes met from outside
+-- a body names only its own lesser nodes, and nodes met from outside; one that gives a value is below fewer than 200
 pub record NamesBack (address : List ℕ) (b : Run Tree) : Type 0 where
   pub nodes : LeadBack address 0 b.after.made
   pub value : (t : Tree) → b.step ≡ gave t → Own address (length b.after.made) t
+  pub shallow : (t : Tree) → b.step ≡ gave t → length address < 200
+
+-- ---- keys
+
+-- the node at a key does not change: it is no stream
+abbrev pub IsLasting : Key → Type 0
+IsLasting (key.Stream stream) = ⊥
+IsLasting _ = Unit {0}
