@@ -126,7 +126,7 @@ met_slots a k q (t ∷ ts) h l = (met_slot a k q t h l.0, met_slots a k q ts h l
 
 -- ---- tables
 
-tables_snoc : (at a : List ℕ) (ts : List (List Made)) (t : List Made) (i : ℕ) → TablesLeadBack at a ts → LeadBack (at ++ a) 0 t → TablesLeadBack at (a ++ i ∷ []) (ts ++ t ∷ [])
+pub tables_snoc : (at a : List ℕ) (ts : List (List Made)) (t : List Made) (i : ℕ) → TablesLeadBack at a ts → LeadBack (at ++ a) 0 t → TablesLeadBack at (a ++ i ∷ []) (ts ++ t ∷ [])
 tables_snoc at [] [] t i g h = (subst (λ z. LeadBack z 0 t) (append-nil at) h, tt)
 tables_snoc at [] (x ∷ ts) t i g h = elim g [ ]
 tables_snoc at (j ∷ a) [] t i g h = elim g [ ]
