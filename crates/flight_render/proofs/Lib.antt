@@ -2,6 +2,6 @@ pub mod Examples
 pub mod Grows
 pub mod Names
 pub mod Larger
-pub mod Chains
+pub mod Falling
 pub mod Reaches
-pub mod Totals
+pub mod Sums

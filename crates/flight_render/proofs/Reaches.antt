@@ -23,7 +23,7 @@ use Rattle.flight_render.specs.Jobs.{Job, the_root, element, outcome, known, bla
 use Rattle.flight_render.specs.Plain.{flow_slots, last_job, flow_last, flow_item, flow, label_of_kind, made_shape, source_slots, source_shape, flow_shape, shape_at, NodeIs}
 use Rattle.flight_render.specs.Costs.{In, Reached, at_root, through, in_slot}
 use Rattle.flight_render.proofs.Names.{some-injective}
-use Rattle.flight_render.proofs.Chains.{IsOwnJob, value_own, chain_ends, one_end}
+use Rattle.flight_render.proofs.Falling.{IsOwnJob, value_own, chain_ends, one_end}
 
 -- ---- what slots hold
 

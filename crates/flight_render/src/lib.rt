@@ -10,4 +10,5 @@
 mod law;
 mod root;
 
+pub use law::{attempts, chains, larger_bodies, larger_rendering, names_lead_back, totals};
 pub use root::{Ground, Root};

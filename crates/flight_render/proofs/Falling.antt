@@ -25,12 +25,12 @@ use Rattle.flight_render.specs.Values.{is_settled, end_if, source_end, outcomes,
 use Rattle.flight_render.specs.Operators.{depth_digest, type_digest}
 use Rattle.flight_render.specs.Eval.{Context, eval}
 use Rattle.flight_render.specs.Body.{Start, started, run_start, params_of, component_start, args_tree, action_start, root_start, body, root_body, fresh, give_last}
-use Rattle.flight_render.specs.Bodies.{inner, element_of, is_finished, finished, made_by, tables_with, next_body, body_below, body_at, node_at, tables_below, tables_at, tables_for}
+use Rattle.flight_render.specs.Bodies.{inner, element_of, is_finished, finished, made_by, tables_with, next_body, body_below, body_at, node_at, tables_below, tables_at, tables_for, TabledFor}
 use Rattle.flight_render.specs.Jobs.{Job, the_root, element, outcome, known, blank, Value, shown, of_job, failed, stopped, is_server, job_of, comes, value_of, Leads, argument, argument_in}
 use Rattle.flight_render.specs.Costs.{address_of}
-use Rattle.flight_render.specs.Laws.{Met, Own, AllOwn, LeadBack, TablesLeadBack, NamesBack}
+use Rattle.flight_render.specs.Laws.{Grows, Stays, Met, Own, AllOwn, LeadBack, TablesLeadBack, NamesBack}
 use Rattle.flight_render.proofs.Names.{some-injective, own_more, all_more, back_at, met_snoc, met_last, tables_snoc, tree_of-own, items-own, property-own, StepOwn, Good, eval-good, source-own}
-use Rattle.flight_render.proofs.Larger.{no_body_below, node_body}
+use Rattle.flight_render.proofs.Larger.{no_body_below, node_body, next-keeps}
 
 -- ---- one body
 
@@ -85,7 +85,7 @@ params_own g a n ts made h l props own (name ∷ names) = (go (property_in g (ts
     go None e = tt
     go (Some t) e = outside t (property-own g a n ts made h l name props own t e)
 
-good_body : (g : Ground) (s : List Bool) (a : List ℕ) (n : ℕ) (ts : List (List Made)) (made : List Made) → TablesLeadBack [] a ts → LeadBack a 0 made → (c : ℕ) (props : Tree) → Own a n props → NamesBack (a ++ n ∷ []) (body g s (ts ++ made ∷ []) c props (a ++ n ∷ []))
+pub good_body : (g : Ground) (s : List Bool) (a : List ℕ) (n : ℕ) (ts : List (List Made)) (made : List Made) → TablesLeadBack [] a ts → LeadBack a 0 made → (c : ℕ) (props : Tree) → Own a n props → NamesBack (a ++ n ∷ []) (body g s (ts ++ made ∷ []) c props (a ++ n ∷ []))
 unfolding body
 good_body g s a n ts made h l c props own =
     good_start (record { over = g; settled = s; address = a ++ n ∷ []; tables = ts ++ made ∷ [] }) (tables_snoc [] a ts made n h l) (component_start g (ts ++ made ∷ []) (slice_get g.program.declared c) props)
@@ -101,7 +101,7 @@ no_params : (g : Ground) (params : List (List ℕ)) → AllOwn [] 0 (params_of g
 no_params g [] = tt
 no_params g (name ∷ names) = (tt, no_params g names)
 
-good_root : (g : Ground) (s : List Bool) → NamesBack [] (root_body g s)
+pub good_root : (g : Ground) (s : List Bool) → NamesBack [] (root_body g s)
 unfolding root_body
 good_root g s = good_start (record { over = g; settled = s; address = []; tables = [] }) tt (root_start g g.root) (λ x is. go g.root x is)
   where
@@ -427,3 +427,12 @@ one_end g s v (j ∷ js) (k ∷ ks) w x l m e f =
     let same : k ≡ j = some-injective k j (sym m.0 ∙ l.0) in
     let ends : m.1.0 ≡ l.1.0 = some-injective m.1.0 l.1.0 (sym m.1.1 ∙ ap (comes g s) same ∙ l.1.1) in
     one_end g s (value_of g s j l.1.0) js ks w x l.1.2 (subst {A = Job × End} (λ z. Leads g s (value_of g s z.0 z.1) ks x) (ap₂ (λ a b. (a, b)) same ends) m.1.2) e f
+
+-- what an attempt with the tables of an element finds under fewer settled sources, the element's job comes to
+pub attempt_gives : (g : Ground) (few many : List Bool) → Grows few many → (n : Name) (tables : List (List Made)) (b : Run Tree) → TabledFor g many n tables
+    → next_body g few tables (inner n) (element_of (node_at g many n)) ≡ Some b → Stays many b.step → comes g many (element n) ≡ Some b.step
+unfolding comes
+attempt_gives g few many gr n tables b tabled is stays =
+    let now = next-keeps g few many gr tables (inner n) (element_of (node_at g many n)) b is stays in
+    ap (option_map (λ x. x.step))
+      (body_with-tables g many n ∙ ap (λ z. next_body g many z (inner n) (element_of (node_at g many n))) (sym tabled.1) ∙ now)
