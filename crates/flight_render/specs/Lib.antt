@@ -8,3 +8,4 @@ pub mod Jobs
 pub mod Plain
 pub mod Costs
 pub mod Laws
+pub mod Valid

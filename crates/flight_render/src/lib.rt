@@ -7,8 +7,10 @@
 //! The language, its costs and the digests that it throws are this project's own.
 #![tactic(auto)]
 
+mod job;
 mod law;
 mod root;
 
+pub use job::{Job, What};
 pub use law::{attempts, chains, larger_bodies, larger_rendering, names_lead_back, totals};
 pub use root::{Ground, Root};
