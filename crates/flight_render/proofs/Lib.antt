@@ -5,3 +5,4 @@ pub mod Larger
 pub mod Falling
 pub mod Reaches
 pub mod Sums
+pub mod Paid
