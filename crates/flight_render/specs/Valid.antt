@@ -1,5 +1,6 @@
 -- Which grounds are valid, which nodes a body makes, and which jobs belong to a ground.
-use Rattle.std.specs.Prelude.{ℕ, suc, ◌+◌, ◌-◌, ◌^◌, ◌≡◌, ◌≢◌, ◌<◌, ◌≤ℤ◌, ℤ, pos, negsuc, true, List, [], ◌∷◌, ◌++◌, map, length, Option, Some, slice_get, All, AllPairs, codes, is_some}
+use Rattle.std.specs.Prelude.{ℕ, suc, ◌+◌, ◌-◌, ◌^◌, ◌≡◌, ◌≢◌, ◌<◌, ◌≤ℤ◌, ℤ, pos, negsuc, true, List, [], ◌∷◌, ◌++◌, map, length, Option, Some, slice_get, All, codes, is_some}
+use Rattle.std.specs.List.{AllByRecursion}
 use Rattle.flight_value.specs.Date.{IsDate}
 use Rattle.flight_value.specs.Graph.{IsSafe, IsValid, IsValidAtom, IsValidSlot, Ascend, slots_of}
 use Rattle.flight_value.specs.declared.graph.Atom.{Atom}
@@ -62,8 +63,13 @@ IsLiteral (atom.Failed digest) = ⊥
 IsLiteral atom.Pending = ⊥
 IsLiteral a = Unit {0}
 
+-- no name of a list is another
+abbrev pub Differs : List ℕ → List (List ℕ) → Type 0
+Differs name names = AllByRecursion (λ other. name ≢ other) names
+
 abbrev pub NoneTwice : List (List ℕ) → Type 0
-NoneTwice names = AllPairs (λ one other. one ≢ other) names
+NoneTwice [] = Unit {0}
+NoneTwice (name ∷ names) = Differs name names × NoneTwice names
 
 abbrev pub names_of : Props → List (List ℕ)
 names_of term.no_props = []
@@ -72,7 +78,7 @@ names_of (term.prop_and name t rest) = name ∷ names_of rest
 -- beside children no attribute is named so
 abbrev pub HasChildrenOnce : List (List ℕ) → Terms → Type 0
 HasChildrenOnce names term.no_terms = Unit {0}
-HasChildrenOnce names (term.term_and t rest) = All (λ name. name ≢ codes "children") names
+HasChildrenOnce names (term.term_and t rest) = Differs (codes "children") names
 
 abbrev pub IsTagOf : Ground → Tag → Type 0
 IsTagOf g (tag.Server number) = IsServerAt g number
@@ -172,7 +178,7 @@ pub record IsValidGround (g : Ground) : Type 0 where
 -- a value whose numbers are in range, and whose node made is there
 abbrev pub IsNamed : Ground → List (List Made) → Tree → Type 0
 IsNamed g tables (tree.Atom a) = IsValidAtom a
-IsNamed g tables (tree.Made n) = is_some (made_in tables n) ≡ true
+IsNamed g tables (tree.Made n) = (m : Made) × (made_in tables n ≡ Some m)
 IsNamed g tables (tree.FromSource source n) = (o : Outcome) × (slice_get (outcomes g) source ≡ Some o) × (n < length (outcome_nodes o))
 IsNamed g tables (tree.Promise source) = source < length g.script.sources
 IsNamed g tables (tree.Stream stream) = stream < length g.script.streams
@@ -212,12 +218,15 @@ MadeWell g tables kind.Promise slots = (array : Tree) × (slots ≡ array ∷ []
 MadeWell g tables (kind.Bound action) slots = IsActionAt g action × ((promise : Tree) × (slots ≡ promise ∷ []) × MadeAs tables IsPromiseKind promise)
 
 abbrev pub IsMade : Ground → List (List Made) → Made → Type 0
-IsMade g tables m = All (IsNamed g tables) m.slots × MadeWell g tables m.kind m.slots
+IsMade g tables m = AllByRecursion (IsNamed g tables) m.slots × MadeWell g tables m.kind m.slots
+
+abbrev pub TablesMade : Ground → List (List Made) → Type 0
+TablesMade g tables = AllByRecursion (AllByRecursion (IsMade g tables)) tables
 
 -- the tables of an address: a list for each proper prefix, each node of which is made well and leads back
 pub record AreTables (g : Ground) (address : List ℕ) (tables : List (List Made)) : Type 0 where
   pub back : TablesLeadBack [] address tables
-  pub made : All (All (IsMade g tables)) tables
+  pub made : TablesMade g tables
 
 -- ---- jobs
 
