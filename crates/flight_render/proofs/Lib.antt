@@ -6,3 +6,6 @@ pub mod Falling
 pub mod Reaches
 pub mod Sums
 pub mod Paid
+pub mod Ordered
+pub mod Sourced
+pub mod Well

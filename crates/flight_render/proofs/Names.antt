@@ -141,7 +141,7 @@ met_table at (i ∷ a) [] c m (x ∷ ts) made t is g met h =
 met_table at (i ∷ a) (j ∷ b) c m (x ∷ ts) made t is g met h =
     met_table (at ++ i ∷ []) a b c m ts made t (is ∙ ap (λ z. at ++ z ∷ b) met.0 ∙ sym (append_assoc at (i ∷ []) b)) g.1 met.1 h
 
-own_table : (at a : List ℕ) (ts : List (List Made)) (made : List Made) → TablesLeadBack at a ts → slice_get (ts ++ made ∷ []) (length a) ≡ Some made
+pub own_table : (at a : List ℕ) (ts : List (List Made)) (made : List Made) → TablesLeadBack at a ts → slice_get (ts ++ made ∷ []) (length a) ≡ Some made
 own_table at [] [] made g = refl
 own_table at [] (x ∷ ts) made g = elim g [ ]
 own_table at (i ∷ a) [] made g = elim g [ ]

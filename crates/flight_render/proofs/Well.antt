@@ -1,0 +1,1 @@
+-- Nodes that bodies make are made well.
