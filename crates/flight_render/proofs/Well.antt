@@ -1,1 +1,292 @@
--- Nodes that bodies make are made well.
+-- The nodes that a body makes over a valid ground are made well, and every node that it names is there.
+use Rattle.std.proofs.Common.{◌≡◌, ◌≢◌, ℕ, zero, suc, ◌+◌, ◌<◌, Bool, true, false, cond, pos, negsuc, List, [], ◌∷◌, ◌++◌, map, length, Option, Some, None, unwrap_or, slice_get, refl, sym, ap, ◌∙◌, subst, arith, length-append, append_assoc, append-nil}
+use Rattle.std.specs.Prelude.{bytes_eq, codes, option_and_then}
+use Rattle.std.specs.List.{AllByRecursion}
+use Rattle.std.proofs.lemmas.Option.{none-some}
+use Rattle.flight_value.specs.Graph.{IsValidAtom, Ascend, slots_of}
+use Rattle.flight_value.specs.declared.graph.Atom.{Atom}
+use Rattle.flight_value.specs.declared.graph.Atom.TheVariants as atom
+use Rattle.flight_value.specs.declared.graph.Node.{Node}
+use Rattle.flight_value.specs.declared.made.Made.{Made}
+use Rattle.flight_value.specs.declared.made.MadeKind.{MadeKind}
+use Rattle.flight_value.specs.declared.made.MadeKind.TheVariants as kind
+use Rattle.flight_value.specs.declared.made.Tree.{Tree}
+use Rattle.flight_value.specs.declared.made.Tree.TheVariants as tree
+use Rattle.flight_value.specs.declared.name.Name.{Name}
+use Rattle.flight_syntax.specs.declared.expr.Op.{Op}
+use Rattle.flight_syntax.specs.declared.expr.Op.TheVariants as op
+use Rattle.flight_syntax.specs.declared.expr.Tag.{Tag}
+use Rattle.flight_syntax.specs.declared.expr.Tag.TheVariants as tag
+use Rattle.flight_syntax.specs.declared.script.Outcome.{Outcome}
+use Rattle.flight_syntax.specs.Term as term
+use Rattle.flight_syntax.specs.Term.{Term, Terms, Props, Pairs}
+use Rattle.flight_render.specs.declared.root.Ground.{Ground}
+use Rattle.flight_render.specs.Run.{Machine, Step, gave, threw, waits, Run, pay, on_step, and_then, ends, give, fail, make}
+use Rattle.flight_render.specs.Values.{is_settled, end_if, source_named, stream_named, source_end, outcomes, import_at, made_in, made_items, node_items, node_in, items_in, made_property, node_property, named_slot, property_in, undefined}
+use Rattle.flight_render.specs.Operators.{type_digest, missing_digest, operated, key_of, thrown}
+use Rattle.flight_render.specs.Eval.{Context, Attributes, known, make_here, give_or_fail, give_atom, item_at, branch, each, make_bound, by_name, make_object, with_attribute, with_children, tag_tree, make_tagged, make_element, eval, eval_all, eval_props, eval_pairs, eval_attrs}
+use Rattle.flight_render.specs.Laws.{TablesLeadBack}
+use Rattle.flight_render.specs.Valid.{IsServerAt, IsActionAt, Differs, NoneTwice, names_of, HasChildrenOnce, IsTagOf, IsLawful, AreLawful, PropsLawful, PairsLawful, IsValidGround, IsNamed, MadeAs, IsArrayKind, IsObjectKind, IsPromiseKind, IsKey, MadeWell, IsMade, TablesMade}
+use Rattle.flight_render.proofs.Names.{some-injective, own_table}
+use Rattle.flight_render.proofs.Ordered.{names_in, sorted_ascends, each_sorted, twice_drop, twice_last}
+use Rattle.flight_render.proofs.Sourced.{each_at, each_append, each_map, mapped_each, position_within, outcome_valid, node_valid, OnGave, source_is-named, slot_of_name, source_items, source_property, literal_valid, valid_operated, key_is-key}
+
+-- ---- tables that gain
+
+get_append : {A : Type 0} (xs ys : List A) (i : ℕ) (x : A) → slice_get xs i ≡ Some x → slice_get (xs ++ ys) i ≡ Some x
+get_append [] ys i x h = absurd (none-some x h)
+get_append (y ∷ xs) ys zero x h = h
+get_append (y ∷ xs) ys (suc i) x h = get_append xs ys i x h
+
+get_push : {A : Type 0} (xs : List A) (x : A) → slice_get (xs ++ x ∷ []) (length xs) ≡ Some x
+get_push [] x = refl
+get_push (y ∷ xs) x = get_push xs x
+
+-- what is there in some tables is there in others
+abbrev pub Has : List (List Made) → List (List Made) → Type 0
+Has us vs = (n : Name) (m : Made) → made_in us n ≡ Some m → made_in vs n ≡ Some m
+
+in_table : List (List Made) → ℕ → ℕ → Option Made
+in_table us l s = option_and_then (λ t. slice_get t s) (slice_get us l)
+
+table_grows : (ts : List (List Made)) (made more : List Made) (l s : ℕ) (m : Made) → in_table (ts ++ made ∷ []) l s ≡ Some m → in_table (ts ++ (made ++ more) ∷ []) l s ≡ Some m
+unfolding in_table
+table_grows [] made more zero s m h = get_append made more s m h
+table_grows [] made more (suc l) s m h = absurd (none-some m h)
+table_grows (t ∷ ts) made more zero s m h = h
+table_grows (t ∷ ts) made more (suc l) s m h = table_grows ts made more l s m h
+
+table_added : (ts : List (List Made)) (made : List Made) (l s : ℕ) (m : Made) → in_table ts l s ≡ Some m → in_table (ts ++ made ∷ []) l s ≡ Some m
+unfolding in_table
+table_added [] made l s m h = absurd (none-some m h)
+table_added (t ∷ ts) made zero s m h = h
+table_added (t ∷ ts) made (suc l) s m h = table_added ts made l s m h
+
+pub has_grown : (ts : List (List Made)) (made more : List Made) → Has (ts ++ made ∷ []) (ts ++ (made ++ more) ∷ [])
+unfolding in_table
+has_grown ts made more n m h = table_grows ts made more (length n.render) n.serial m h
+
+pub has_added : (ts : List (List Made)) (made : List Made) → Has ts (ts ++ made ∷ [])
+unfolding in_table
+has_added ts made n m h = table_added ts made (length n.render) n.serial m h
+
+pub named_has : (g : Ground) (us vs : List (List Made)) → Has us vs → (t : Tree) → IsNamed g us t → IsNamed g vs t
+named_has g us vs has (tree.Made n) h = (h.0, has n h.0 h.1)
+named_has g us vs has (tree.Atom a) h = h
+named_has g us vs has (tree.FromSource s n) h = h
+named_has g us vs has (tree.Promise s) h = h
+named_has g us vs has (tree.Stream s) h = h
+named_has g us vs has (tree.Action s) h = h
+
+as_has : (us vs : List (List Made)) (P : MadeKind → Type 0) → Has us vs → (t : Tree) → MadeAs us P t → MadeAs vs P t
+as_has us vs P has (tree.Made n) h = (h.0, has n h.0 h.1, h.2)
+as_has us vs P has (tree.Atom a) h = elim h [ ]
+as_has us vs P has (tree.FromSource s n) h = elim h [ ]
+as_has us vs P has (tree.Promise s) h = elim h [ ]
+as_has us vs P has (tree.Stream s) h = elim h [ ]
+as_has us vs P has (tree.Action s) h = elim h [ ]
+
+well_has : (g : Ground) (us vs : List (List Made)) → Has us vs → (k : MadeKind) (slots : List Tree) → MadeWell g us k slots → MadeWell g vs k slots
+well_has g us vs has kind.Array slots h = h
+well_has g us vs has (kind.Object names) slots h = h
+well_has g us vs has kind.Map slots h = h
+well_has g us vs has kind.Set slots h = h
+well_has g us vs has kind.Element slots h = h
+well_has g us vs has (kind.Server c) slots h = (h.0, (h.1.0, (h.1.1.0, h.1.1.1, h.1.1.2, as_has us vs IsObjectKind has h.1.1.0 h.1.1.3)))
+well_has g us vs has kind.Promise slots h = (h.0, h.1, as_has us vs IsArrayKind has h.0 h.2)
+well_has g us vs has (kind.Bound a) slots h = (h.0, (h.1.0, h.1.1, as_has us vs IsPromiseKind has h.1.0 h.1.2))
+
+pub made_has : (g : Ground) (us vs : List (List Made)) → Has us vs → (m : Made) → IsMade g us m → IsMade g vs m
+made_has g us vs has m h = (each_map (IsNamed g us) (IsNamed g vs) (named_has g us vs has) m.slots h.0, well_has g us vs has m.kind m.slots h.1)
+
+-- a node of tables that are made well is made well
+pub found_made : (P : Made → Type 0) (us : List (List Made)) → AllByRecursion (AllByRecursion P) us → (n : Name) (m : Made) → made_in us n ≡ Some m → P m
+found_made P us h n m e = go (slice_get us (length n.render)) refl e
+  where
+    go : (o : Option (List Made)) → slice_get us (length n.render) ≡ o → option_and_then (λ t. slice_get t n.serial) o ≡ Some m → P m
+    go None q r = absurd (none-some m r)
+    go (Some t) q r = each_at P t n.serial m (each_at (AllByRecursion P) us (length n.render) t h q) r
+
+-- ---- runs
+
+module _ (cx : Context) (valid : IsValidGround cx.over) (back : TablesLeadBack [] cx.address cx.tables) (tables : TablesMade cx.over cx.tables) where
+  -- the tables with so many nodes of this body
+  abbrev with_made : List Made → List (List Made)
+  with_made made = cx.tables ++ made ∷ []
+
+  abbrev Fine : List Made → Tree → Type 0
+  Fine made t = IsNamed cx.over (with_made made) t
+
+  abbrev AllFine : List Made → List Tree → Type 0
+  AllFine made ts = AllByRecursion (IsNamed cx.over (with_made made)) ts
+
+  abbrev Nodes : List Made → Type 0
+  Nodes made = AllByRecursion (IsMade cx.over (with_made made)) made
+
+  abbrev Extends : List Made → List Made → Type 0
+  Extends before after = (more : List Made) × (after ≡ before ++ more)
+
+  extends_has : (before after : List Made) → Extends before after → Has (with_made before) (with_made after)
+  extends_has before after e = subst (λ z. Has (with_made before) (with_made z)) (sym e.1) (has_grown cx.tables before e.0)
+
+  fine_more : (before after : List Made) → Extends before after → (t : Tree) → Fine before t → Fine after t
+  fine_more before after e t h = named_has cx.over (with_made before) (with_made after) (extends_has before after e) t h
+
+  all_fine_more : (before after : List Made) → Extends before after → (ts : List Tree) → AllFine before ts → AllFine after ts
+  all_fine_more before after e ts h = each_map (Fine before) (Fine after) (fine_more before after e) ts h
+
+  same_nodes : (made : List Made) → Extends made made
+  same_nodes made = ([], sym (append-nil made))
+
+  extends_trans : (a b c : List Made) → Extends a b → Extends b c → Extends a c
+  extends_trans a b c x y = (x.0 ++ y.0, y.1 ∙ ap (λ z. z ++ y.0) x.1 ∙ append_assoc a x.0 y.0)
+
+  -- a run from these nodes on: its nodes are made well, and so is what it gives
+  pub record Well {A : Type 0} (P : List Made → A → Type 0) (before : List Made) (r : Run A) : Type 0 where
+    pub grows : Extends before r.after.made
+    pub nodes : Nodes r.after.made
+    pub value : OnGave (P r.after.made) r.step
+
+  well_then : {A B : Type 0} (P : List Made → A → Type 0) (Q : List Made → B → Type 0) (before : List Made) (r : Run A) (f : A → Machine → Run B) → Well P before r
+      → ((a : A) (m : Machine) → Extends before m.made → Nodes m.made → P m.made a → Well Q m.made (f a m)) → Well Q before (and_then r f)
+  well_then {A} {B} P Q before r f w rest = go r.step w.value
+    where
+      go : (s : Step A) → OnGave (P r.after.made) s → Well Q before (on_step s f r.after)
+      go (gave a) h = let x = rest a r.after w.grows w.nodes h in record { grows = extends_trans before r.after.made (f a r.after).after.made w.grows x.grows; nodes = x.nodes; value = x.value }
+      go (threw d) h = record { grows = w.grows; nodes = w.nodes; value = tt }
+      go (waits s) h = record { grows = w.grows; nodes = w.nodes; value = tt }
+
+  well_end : {A : Type 0} (P : List Made → A → Type 0) (s : Step A) (m : Machine) → Nodes m.made → OnGave (P m.made) s → Well P m.made (ends s m)
+  well_end P s m n h = record { grows = same_nodes m.made; nodes = n; value = h }
+
+  well_option : {A : Type 0} (P : List Made → A → Type 0) (d : List ℕ) (o : Option A) (m : Machine) → Nodes m.made → ((x : A) → o ≡ Some x → P m.made x) → Well P m.made (give_or_fail d o m)
+  well_option P d None m n h = record { grows = same_nodes m.made; nodes = n; value = tt }
+  well_option P d (Some x) m n h = record { grows = same_nodes m.made; nodes = n; value = h x refl }
+
+  well_atom : (s : Step Atom) (m : Machine) → Nodes m.made → OnGave IsValidAtom s → Well Fine m.made (give_atom s m)
+  well_atom (gave a) m n h = record { grows = same_nodes m.made; nodes = n; value = h }
+  well_atom (threw d) m n h = record { grows = same_nodes m.made; nodes = n; value = tt }
+  well_atom (waits s) m n h = record { grows = same_nodes m.made; nodes = n; value = tt }
+
+  -- a node that is made well
+  FineAs : (MadeKind → Type 0) → List Made → Tree → Type 0
+  FineAs Q made t = Fine made t × MadeAs (with_made made) Q t
+
+  well_make : (Q : MadeKind → Type 0) (k : MadeKind) (slots : List Tree) (m : Machine) → Q k → Nodes m.made → AllFine m.made slots → MadeWell cx.over (with_made m.made) k slots → Well (FineAs Q) m.made (make_here cx k slots m)
+  unfolding FineAs
+  well_make Q k slots m is n h w =
+      record { grows = (x ∷ [], refl); nodes = each_append (IsMade cx.over (with_made after)) m.made (x ∷ []) old (new, tt); value = ((x, found), (x, found, is)) }
+    where
+      x : Made
+      x = record { kind = k; slots = slots }
+      after : List Made
+      after = m.made ++ x ∷ []
+      has : Has (with_made m.made) (with_made after)
+      has = has_grown cx.tables m.made (x ∷ [])
+      old : AllByRecursion (IsMade cx.over (with_made after)) m.made
+      old = each_map (IsMade cx.over (with_made m.made)) (IsMade cx.over (with_made after)) (made_has cx.over (with_made m.made) (with_made after) has) m.made n
+      new : IsMade cx.over (with_made after) x
+      new = made_has cx.over (with_made m.made) (with_made after) has x (h, w)
+      found : made_in (with_made after) (record { render = cx.address; serial = length m.made }) ≡ Some x
+      found = ap (option_and_then (λ t. slice_get t (length m.made))) (own_table [] cx.address cx.tables after back) ∙ get_push m.made x
+
+  AnyKind : MadeKind → Type 0
+  AnyKind k = Unit {0}
+
+  -- where the kind does not matter
+  well_node : (k : MadeKind) (slots : List Tree) (m : Machine) → Nodes m.made → AllFine m.made slots → MadeWell cx.over (with_made m.made) k slots → Well Fine m.made (make_here cx k slots m)
+  unfolding FineAs AnyKind
+  well_node k slots m n h w = let r = well_make AnyKind k slots m tt n h w in record { grows = r.grows; nodes = r.nodes; value = r.value.0 }
+
+  -- ---- what arrays and objects hold
+
+  node_made : (made : List Made) → Nodes made → (n : Name) (m : Made) → made_in (with_made made) n ≡ Some m → IsMade cx.over (with_made made) m
+  node_made made n name m e =
+      found_made (IsMade cx.over (with_made made)) (with_made made)
+        (each_append (AllByRecursion (IsMade cx.over (with_made made))) cx.tables (made ∷ [])
+          (each_map (AllByRecursion (IsMade cx.over cx.tables)) (AllByRecursion (IsMade cx.over (with_made made)))
+            (λ t h. each_map (IsMade cx.over cx.tables) (IsMade cx.over (with_made made)) (made_has cx.over cx.tables (with_made made) (has_added cx.tables made)) t h) cx.tables tables)
+          (n, tt)) name m e
+
+  read_fine : {A B : Type 0} (P : B → Type 0) (f : A → Option B) (o : Option A) → ((x : A) → o ≡ Some x → (y : B) → f x ≡ Some y → P y) → (y : B) → option_and_then f o ≡ Some y → P y
+  read_fine P f None h y is = absurd (none-some y is)
+  read_fine P f (Some x) h y is = h x refl y is
+
+  made_items-fine : (made : List Made) (x : Made) → AllFine made x.slots → (ts : List Tree) → made_items x ≡ Some ts → AllFine made ts
+  made_items-fine made x h ts is = go x.kind is
+    where
+      go : (j : MadeKind) → made_items (record { kind = j; slots = x.slots }) ≡ Some ts → AllFine made ts
+      go kind.Array e = subst (AllFine made) (some-injective x.slots ts e) h
+      go (kind.Object names) e = absurd (none-some ts e)
+      go kind.Map e = absurd (none-some ts e)
+      go kind.Set e = absurd (none-some ts e)
+      go kind.Element e = absurd (none-some ts e)
+      go (kind.Server c) e = absurd (none-some ts e)
+      go kind.Promise e = absurd (none-some ts e)
+      go (kind.Bound c) e = absurd (none-some ts e)
+
+  made_property-fine : (made : List Made) (name : List ℕ) (x : Made) → AllFine made x.slots → (t : Tree) → made_property name x ≡ Some t → Fine made t
+  made_property-fine made name x h t is = go x.kind is
+    where
+      go : (j : MadeKind) → made_property name (record { kind = j; slots = x.slots }) ≡ Some t → Fine made t
+      go kind.Array e = absurd (none-some t e)
+      go (kind.Object names) e = subst (Fine made) (some-injective (named_slot name names x.slots) t e) (slot_of_name cx.over (with_made made) name names x.slots h)
+      go kind.Map e = absurd (none-some t e)
+      go kind.Set e = absurd (none-some t e)
+      go kind.Element e = absurd (none-some t e)
+      go (kind.Server c) e = absurd (none-some t e)
+      go kind.Promise e = absurd (none-some t e)
+      go (kind.Bound c) e = absurd (none-some t e)
+
+  items_fine : (made : List Made) → Nodes made → (t : Tree) (items : List Tree) → items_in cx.over (with_made made) t ≡ Some items → AllFine made items
+  items_fine made n (tree.Made name) items is = read_fine (AllFine made) made_items (made_in (with_made made) name) (λ x e ys f. made_items-fine made x (node_made made n name x e).0 ys f) items is
+  items_fine made n (tree.FromSource s i) items is =
+      read_fine (AllFine made) (λ o. option_and_then (node_items o s) (node_in o i)) (slice_get (outcomes cx.over) s)
+        (λ o e ys f. read_fine (AllFine made) (node_items o s) (node_in o i) (λ x q zs r. source_items cx.over (with_made made) s o e x (node_valid o i x (outcome_valid cx.over valid s o e) q) zs r) ys f) items is
+  items_fine made n (tree.Atom a) items is = absurd (none-some items is)
+  items_fine made n (tree.Promise s) items is = absurd (none-some items is)
+  items_fine made n (tree.Stream s) items is = absurd (none-some items is)
+  items_fine made n (tree.Action s) items is = absurd (none-some items is)
+
+  property_fine : (made : List Made) → Nodes made → (name : List ℕ) (t u : Tree) → property_in cx.over (with_made made) name t ≡ Some u → Fine made u
+  property_fine made n name (tree.Made q) u is = read_fine (Fine made) (made_property name) (made_in (with_made made) q) (λ x e y f. made_property-fine made name x (node_made made n q x e).0 y f) u is
+  property_fine made n name (tree.FromSource s i) u is =
+      read_fine (Fine made) (λ o. option_and_then (node_property o s name) (node_in o i)) (slice_get (outcomes cx.over) s)
+        (λ o e y f. read_fine (Fine made) (node_property o s name) (node_in o i) (λ x q z r. source_property cx.over (with_made made) s o e name x (node_valid o i x (outcome_valid cx.over valid s o e) q) z r) y f) u is
+  property_fine made n name (tree.Atom a) u is = absurd (none-some u is)
+  property_fine made n name (tree.Promise s) u is = absurd (none-some u is)
+  property_fine made n name (tree.Stream s) u is = absurd (none-some u is)
+  property_fine made n name (tree.Action s) u is = absurd (none-some u is)
+
+  variable_fine : (made : List Made) (ts : List Tree) (i : ℕ) → AllFine made ts → Fine made (unwrap_or (slice_get ts i) undefined)
+  variable_fine made [] i h = tt
+  variable_fine made (t ∷ ts) zero h = h.0
+  variable_fine made (t ∷ ts) (suc i) h = variable_fine made ts i h.1
+
+  item_fine : (made : List Made) (ts : List Tree) (i : ℕ) (t : Tree) → AllFine made ts → slice_get ts i ≡ Some t → Fine made t
+  item_fine made ts i t h e = each_at (Fine made) ts i t h e
+
+  well_index : (t i : Tree) (m : Machine) → Nodes m.made → Well Fine m.made (item_at cx t i m)
+  well_index t (tree.Atom (atom.Whole (pos i))) m n =
+      well_then AllFine Fine m.made (give_or_fail type_digest (items_in cx.over (known cx m) t) m) (λ items k. give_or_fail missing_digest (slice_get items i) k)
+        (well_option AllFine type_digest (items_in cx.over (known cx m) t) m n (λ ts is. items_fine m.made n t ts is))
+        (λ items k e nk h. well_option Fine missing_digest (slice_get items i) k nk (λ x is. item_fine k.made items i x h is))
+  well_index t (tree.Atom (atom.Whole (negsuc i))) m n =
+      well_then AllFine Fine m.made (give_or_fail type_digest (items_in cx.over (known cx m) t) m) (λ items k. fail missing_digest k)
+        (well_option AllFine type_digest (items_in cx.over (known cx m) t) m n (λ ts is. items_fine m.made n t ts is))
+        (λ items k e nk h. well_end Fine (threw missing_digest) k nk tt)
+  well_index t _ m n = well_end Fine (threw type_digest) m n tt
+
+  well_branch : (t : Tree) (y o : Machine → Run Tree) (m : Machine) → Nodes m.made → Well Fine m.made (y m) → Well Fine m.made (o m) → Well Fine m.made (branch t y o m)
+  well_branch (tree.Atom (atom.Bool true)) y o m n hy ho = hy
+  well_branch (tree.Atom (atom.Bool false)) y o m n hy ho = ho
+  well_branch _ y o m n hy ho = well_end Fine (threw type_digest) m n tt
+
+  well_each : (run : Tree → Machine → Run Tree) (low : List Made)
+      → ((t : Tree) (m : Machine) → Nodes m.made → Extends low m.made → Fine m.made t → Well Fine m.made (run t m))
+      → (items so_far : List Tree) (m : Machine) → Nodes m.made → Extends low m.made → AllFine m.made items → AllFine m.made so_far → Well AllFine m.made (each run items so_far m)
+  well_each run low one [] so_far m n e h k = well_end AllFine (gave so_far) m n k
+  well_each run low one (item ∷ items) so_far m n e h k =
+      well_then Fine AllFine m.made (run item m) (λ result l. each run items (so_far ++ result ∷ []) l) (one item m n e h.0)
+        (λ t l f nl own. well_each run low one items (so_far ++ t ∷ []) l nl (extends_trans low m.made l.made e f) (all_fine_more m.made l.made f items h.1)
+          (each_append (Fine l.made) so_far (t ∷ []) (all_fine_more m.made l.made f so_far k) (own, tt)))
