@@ -290,3 +290,92 @@ module _ (cx : Context) (valid : IsValidGround cx.over) (back : TablesLeadBack [
       well_then Fine AllFine m.made (run item m) (λ result l. each run items (so_far ++ result ∷ []) l) (one item m n e h.0)
         (λ t l f nl own. well_each run low one items (so_far ++ t ∷ []) l nl (extends_trans low m.made l.made e f) (all_fine_more m.made l.made f items h.1)
           (each_append (Fine l.made) so_far (t ∷ []) (all_fine_more m.made l.made f so_far k) (own, tt)))
+
+  -- ---- objects and elements
+
+  PropsFine : List Made → List (List ℕ × Tree) → Type 0
+  PropsFine made ps = AllByRecursion (λ p. Fine made p.1) ps
+
+  -- with names of which none stands twice
+  PropsDistinct : List Made → List (List ℕ × Tree) → Type 0
+  PropsDistinct made ps = PropsFine made ps × NoneTwice (names_in ps)
+
+  -- an element's key and attributes, with names of which none stands twice, nor is one of a tail
+  AttrsDistinct : List (List ℕ) → List Made → Attributes → Type 0
+  AttrsDistinct tail made x = IsKey x.key × Fine made x.key × PropsFine made x.props × NoneTwice (names_in x.props ++ tail)
+
+  props_more : (before after : List Made) → Extends before after → (ps : List (List ℕ × Tree)) → PropsFine before ps → PropsFine after ps
+  unfolding PropsFine
+  props_more before after e ps h = each_map (λ p. Fine before p.1) (λ p. Fine after p.1) (λ p w. fine_more before after e p.1 w) ps h
+
+  names_push : (ps : List (List ℕ × Tree)) (p : List ℕ × Tree) → names_in (ps ++ p ∷ []) ≡ names_in ps ++ p.0 ∷ []
+  names_push [] p = refl
+  names_push (q ∷ ps) p = ap (λ z. q.0 ∷ z) (names_push ps p)
+
+  names_next : (ps : List (List ℕ × Tree)) (p : List ℕ × Tree) (tail : List (List ℕ)) → NoneTwice (names_in ps ++ p.0 ∷ tail) → NoneTwice (names_in (ps ++ p ∷ []) ++ tail)
+  names_next ps p tail h = subst NoneTwice (sym (ap (λ z. z ++ tail) (names_push ps p) ∙ append_assoc (names_in ps) (p.0 ∷ []) tail)) h
+
+  same_length : {A B C : Type 0} (f : A → B) (h : A → C) (xs : List A) → length (map f xs) ≡ length (map h xs)
+  same_length f h [] = refl
+  same_length f h (x ∷ xs) = ap suc (same_length f h xs)
+
+  well_object : (ps : List (List ℕ × Tree)) (m : Machine) → Nodes m.made → PropsDistinct m.made ps → Well (FineAs IsObjectKind) m.made (make_object cx ps m)
+  unfolding PropsDistinct PropsFine
+  well_object ps m n h =
+      well_make IsObjectKind (kind.Object (names_in (by_name ps))) (map (λ p. p.1) (by_name ps)) m tt n
+        (mapped_each (λ p. Fine m.made p.1) (Fine m.made) (λ p. p.1) (λ p w. w) (by_name ps) (each_sorted (λ p. Fine m.made p.1) ps h.0))
+        (sorted_ascends ps h.1, same_length (λ p. p.1) (λ p. p.0) (by_name ps))
+
+  well_plain_object : (ps : List (List ℕ × Tree)) (m : Machine) → Nodes m.made → PropsDistinct m.made ps → Well Fine m.made (make_object cx ps m)
+  unfolding FineAs
+  well_plain_object ps m n h = let r = well_object ps m n h in record { grows = r.grows; nodes = r.nodes; value = r.value.0 }
+
+  well_attribute : (tail : List (List ℕ)) (x : Attributes) (name : List ℕ) (t : Tree) (m : Machine) → Nodes m.made → AttrsDistinct (name ∷ tail) m.made x → Fine m.made t → Well (AttrsDistinct tail) m.made (with_attribute x name t m)
+  unfolding AttrsDistinct PropsFine
+  well_attribute tail x name t m n h w = go (bytes_eq name (codes "key"))
+    where
+      keyed : (s : Step Atom) → OnGave (λ a. IsKey (tree.Atom a) × IsValidAtom a) s → Well (AttrsDistinct tail) m.made (on_step s (λ key k. give (record { key = tree.Atom key; props = x.props }) k) m)
+      keyed (gave k) q = record { grows = same_nodes m.made; nodes = n; value = (q.0, q.1, h.2, twice_drop (names_in x.props) tail name h.3) }
+      keyed (threw d) q = record { grows = same_nodes m.made; nodes = n; value = tt }
+      keyed (waits s) q = record { grows = same_nodes m.made; nodes = n; value = tt }
+      go : (b : Bool) → Well (AttrsDistinct tail) m.made (cond b (on_step (key_of t) (λ key k. give (record { key = tree.Atom key; props = x.props }) k) m) (give (record { key = x.key; props = x.props ++ (name, t) ∷ [] }) m))
+      go true = keyed (key_of t) (key_is-key t)
+      go false = record { grows = same_nodes m.made; nodes = n; value = (h.0, h.1, each_append (λ p. Fine m.made p.1) x.props ((name, t) ∷ []) h.2 (w, tt), names_next x.props (name, t) tail h.3) }
+
+  attrs_more : (tail : List (List ℕ)) (before after : List Made) → Extends before after → (x : Attributes) → AttrsDistinct tail before x → AttrsDistinct tail after x
+  unfolding AttrsDistinct
+  attrs_more tail before after e x h = (h.0, fine_more before after e x.key h.1, props_more before after e x.props h.2, h.3)
+
+  well_children : (x : Attributes) (ts : List Tree) (m : Machine) → Nodes m.made → AttrsDistinct (codes "children" ∷ []) m.made x → AllFine m.made ts → Well (AttrsDistinct []) m.made (with_children cx x ts m)
+  unfolding AttrsDistinct PropsFine
+  well_children x [] m n h w = record { grows = same_nodes m.made; nodes = n; value = (h.0, h.1, h.2, twice_drop (names_in x.props) [] (codes "children") h.3) }
+  well_children x (t ∷ []) m n h w =
+      record { grows = same_nodes m.made; nodes = n; value = (h.0, h.1, each_append (λ p. Fine m.made p.1) x.props ((codes "children", t) ∷ []) h.2 (w.0, tt), names_next x.props (codes "children", t) [] h.3) }
+  well_children x (t ∷ u ∷ ts) m n h w =
+      well_then Fine (AttrsDistinct []) m.made (make_here cx kind.Array (t ∷ u ∷ ts) m) (λ array k. give (record { key = x.key; props = x.props ++ (codes "children", array) ∷ [] }) k)
+        (well_node kind.Array (t ∷ u ∷ ts) m n w tt)
+        (λ array k e nk own. record { grows = same_nodes k.made; nodes = nk;
+          value = (h.0, fine_more m.made k.made e x.key h.1, each_append (λ p. Fine k.made p.1) x.props ((codes "children", array) ∷ []) (props_more m.made k.made e x.props h.2) (own, tt), names_next x.props (codes "children", array) [] h.3) })
+
+  well_tagged : (t : Tag) (key props : Tree) (m : Machine) → IsTagOf cx.over t → Nodes m.made → IsKey key → Fine m.made key → FineAs IsObjectKind m.made props → Well Fine m.made (make_tagged cx t key props m)
+  unfolding FineAs
+  well_tagged (tag.Server c) key props m is n k h w = well_node (kind.Server c) (key ∷ props ∷ []) m n (h, (w.0, tt)) (is, (key, (props, refl, k, w.1)))
+  well_tagged (tag.Host name) key props m is n k h w = well_node kind.Element (tag_tree cx (tag.Host name) ∷ key ∷ props ∷ []) m n (tt, (h, (w.0, tt))) refl
+  well_tagged (tag.Client c) key props m is n k h w = well_node kind.Element (tag_tree cx (tag.Client c) ∷ key ∷ props ∷ []) m n (tt, (h, (w.0, tt))) refl
+  well_tagged tag.Suspense key props m is n k h w = well_node kind.Element (tag_tree cx tag.Suspense ∷ key ∷ props ∷ []) m n (tt, (h, (w.0, tt))) refl
+
+  well_element : (t : Tag) (x : Attributes) (m : Machine) → IsTagOf cx.over t → Nodes m.made → AttrsDistinct [] m.made x → Well Fine m.made (make_element cx t x m)
+  unfolding AttrsDistinct PropsDistinct
+  well_element t x m is n h =
+      well_then (FineAs IsObjectKind) Fine m.made (make_object cx x.props m) (λ props k. make_tagged cx t x.key props k)
+        (well_object x.props m n (h.2, subst NoneTwice (append-nil (names_in x.props)) h.3))
+        (λ props k e nk own. well_tagged t x.key props k is nk h.0 (fine_more m.made k.made e x.key h.1) own)
+
+  well_bound : (action : ℕ) (ts : List Tree) (m : Machine) → IsActionAt cx.over action → Nodes m.made → AllFine m.made ts → Well Fine m.made (make_bound cx action ts m)
+  unfolding FineAs
+  well_bound action ts m is n h =
+      well_then (FineAs IsArrayKind) Fine m.made (make_here cx kind.Array ts m) (λ array k. and_then (make_here cx kind.Promise (array ∷ []) k) (λ promise l. make_here cx (kind.Bound action) (promise ∷ []) l))
+        (well_make IsArrayKind kind.Array ts m tt n h tt)
+        (λ array k e nk own. well_then (FineAs IsPromiseKind) Fine k.made (make_here cx kind.Promise (array ∷ []) k) (λ promise l. make_here cx (kind.Bound action) (promise ∷ []) l)
+          (well_make IsPromiseKind kind.Promise (array ∷ []) k tt nk (own.0, tt) (array, refl, own.1))
+          (λ promise l f nl ol. well_node (kind.Bound action) (promise ∷ []) l nl (ol.0, tt) (is, (promise, refl, ol.1))))
