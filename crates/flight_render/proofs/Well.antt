@@ -379,3 +379,124 @@ module _ (cx : Context) (valid : IsValidGround cx.over) (back : TablesLeadBack [
         (λ array k e nk own. well_then (FineAs IsPromiseKind) Fine k.made (make_here cx kind.Promise (array ∷ []) k) (λ promise l. make_here cx (kind.Bound action) (promise ∷ []) l)
           (well_make IsPromiseKind kind.Promise (array ∷ []) k tt nk (own.0, tt) (array, refl, own.1))
           (λ promise l f nl ol. well_node (kind.Bound action) (promise ∷ []) l nl (ol.0, tt) (is, (promise, refl, ol.1))))
+
+  -- ---- expressions
+
+  half_more : (entries : ℕ) (xs : List Tree) (k v : Tree) → length xs ≡ entries + entries → length (xs ++ k ∷ v ∷ []) ≡ suc entries + suc entries
+  half_more entries xs k v e = let l = length-append xs (k ∷ v ∷ []) in omega (arith, l, e)
+
+  -- keys and values in turn
+  PairsFine : List Made → List Tree → Type 0
+  PairsFine made ts = AllFine made ts × ((entries : ℕ) × (length ts ≡ entries + entries))
+
+  mutual
+    unfolding PropsDistinct PropsFine AttrsDistinct PairsFine
+    pub eval-well : (scope : ℕ) (t : Term) (env : List Tree) (m : Machine) → IsLawful cx.over scope t → Nodes m.made → AllFine m.made env → Well Fine m.made (eval cx t env m)
+    eval-well scope (term.let_in name value rest) env m l n h =
+        well_then _ _ _ _ _ (eval-well scope value env (pay 1 m) l.0 n h)
+          (λ t k e nk own. eval-well (suc scope) rest (env ++ t ∷ []) k l.1 nk (each_append (Fine k.made) env (t ∷ []) (all_fine_more m.made k.made e env h) (own, tt)))
+    eval-well scope (term.if_else test yes_one other) env m l n h =
+        well_then _ _ _ _ _ (eval-well scope test env (pay 1 m) l.0 n h)
+          (λ t k e nk own. well_branch t (eval cx yes_one env) (eval cx other env) k nk
+            (eval-well scope yes_one env k l.1 nk (all_fine_more m.made k.made e env h)) (eval-well scope other env k l.2 nk (all_fine_more m.made k.made e env h)))
+    eval-well scope (term.for_in name over give_one) env m l n h =
+        well_then _ _ _ _ _ (eval-well scope over env (pay 1 m) l.0 n h)
+          (λ t k e nk own. well_then AllFine Fine k.made (give_or_fail type_digest (items_in cx.over (known cx k) t) k) _ (well_option AllFine type_digest (items_in cx.over (known cx k) t) k nk (λ ts is. items_fine k.made nk t ts is))
+            (λ items i f ni oi. well_then AllFine Fine i.made (each (λ item j. eval cx give_one (env ++ item ∷ []) j) items [] i) _
+              (well_each (λ item j. eval cx give_one (env ++ item ∷ []) j) i.made
+                (λ item j nj up oj. eval-well (suc scope) give_one (env ++ item ∷ []) j l.1 nj
+                  (each_append (Fine j.made) env (item ∷ []) (all_fine_more m.made j.made (extends_trans m.made i.made j.made (extends_trans m.made k.made i.made e f) up) env h) (oj, tt)))
+                items [] i ni (same_nodes i.made) oi tt)
+              (λ ts j g nj oj. well_node kind.Array ts j nj oj tt)))
+    eval-well scope (term.throw value) env m l n h = well_then _ _ _ _ _ (eval-well scope value env (pay 1 m) l n h) (λ t k e nk own. well_end Fine (threw (thrown t)) k nk tt)
+    eval-well scope (term.member of name) env m l n h =
+        well_then _ _ _ _ _ (eval-well scope of env (pay 1 m) l n h)
+          (λ t k e nk own. well_option Fine type_digest (property_in cx.over (known cx k) name t) k nk (λ u is. property_fine k.made nk name t u is))
+    eval-well scope (term.index of at_one) env m l n h =
+        well_then _ _ _ _ _ (eval-well scope of env (pay 1 m) l.0 n h)
+          (λ t k e nk own. well_then _ _ _ _ _ (eval-well scope at_one env k l.1 nk (all_fine_more m.made k.made e env h)) (λ i j f nj oj. well_index t i j nj))
+    eval-well scope (term.atom a) env m l n h = well_end Fine (gave (tree.Atom a)) (pay 1 m) n (literal_valid a l)
+    eval-well scope (term.variable number) env m l n h = well_end Fine (gave (unwrap_or (slice_get env number) undefined)) (pay 1 m) n (variable_fine m.made env number h)
+    eval-well scope (term.client number) env m l n h = well_end Fine (gave (tree.Atom (atom.Import (import_at cx.over number)))) (pay 1 m) n tt
+    eval-well scope (term.array items) env m l n h = well_then _ _ _ _ _ (all-well scope items env [] (pay 1 m) l n h tt) (λ ts k e nk own. well_node kind.Array ts k nk own tt)
+    eval-well scope (term.object props) env m l n h = well_then PropsDistinct Fine m.made (eval_props cx props env [] (pay 1 m)) (make_object cx) (props-well scope props env [] (pay 1 m) l.1 n h tt l.0) (λ ps k e nk own. well_plain_object ps k nk own)
+    eval-well scope (term.map pairs) env m l n h = well_then PairsFine Fine m.made (eval_pairs cx pairs env [] (pay 1 m)) (make_here cx kind.Map) (pairs-well scope pairs env [] (pay 1 m) l n h (tt, (0, refl))) (λ ts k e nk own. well_node kind.Map ts k nk own.0 own.1)
+    eval-well scope (term.set items) env m l n h = well_then _ _ _ _ _ (all-well scope items env [] (pay 1 m) l n h tt) (λ ts k e nk own. well_node kind.Set ts k nk own tt)
+    eval-well scope (term.source name) env m l n h =
+        well_then (λ made s. Unit {0}) Fine m.made (give_or_fail type_digest (source_named cx.over name) (pay 1 m)) (λ s k. ends (source_end cx.over cx.settled s) k)
+          (well_option (λ made s. Unit {0}) type_digest (source_named cx.over name) (pay 1 m) n (λ s is. tt))
+          (λ s k e nk own. well_end Fine (source_end cx.over cx.settled s) k nk (source_is-named cx.over valid (with_made k.made) (is_settled cx.settled s) s (slice_get (outcomes cx.over) s) refl))
+    eval-well scope (term.promise name) env m l n h =
+        well_then (λ made s. s < length cx.over.script.sources) Fine m.made (give_or_fail type_digest (source_named cx.over name) (pay 1 m)) (λ s k. give (tree.Promise s) k)
+          (well_option (λ made s. s < length cx.over.script.sources) type_digest (source_named cx.over name) (pay 1 m) n (λ s is. position_within (λ d. bytes_eq name d.name) cx.over.script.sources s is))
+          (λ s k e nk own. well_end Fine (gave (tree.Promise s)) k nk own)
+    eval-well scope (term.stream name) env m l n h =
+        well_then (λ made s. s < length cx.over.script.streams) Fine m.made (give_or_fail type_digest (stream_named cx.over name) (pay 1 m)) (λ s k. give (tree.Stream s) k)
+          (well_option (λ made s. s < length cx.over.script.streams) type_digest (stream_named cx.over name) (pay 1 m) n (λ s is. position_within (λ d. bytes_eq name d.name) cx.over.script.streams s is))
+          (λ s k e nk own. well_end Fine (gave (tree.Stream s)) k nk own)
+    eval-well scope (term.action number) env m l n h = well_end Fine (gave (tree.Action number)) (pay 1 m) n l
+    eval-well scope (term.action_with number bound) env m l n h = well_then _ _ _ _ _ (all-well scope bound env [] (pay 1 m) l.1 n h tt) (λ ts k e nk own. well_bound number ts k l.0 nk own)
+    eval-well scope (term.paren inside) env m l n h = eval-well scope inside env m l n h
+    eval-well scope (term.binary op.And left right) env m l n h =
+        well_then _ _ _ _ _ (eval-well scope left env (pay 1 m) l.0 n h)
+          (λ t k e nk own. well_branch t (eval cx right env) (give t) k nk (eval-well scope right env k l.1 nk (all_fine_more m.made k.made e env h)) (well_end Fine (gave t) k nk own))
+    eval-well scope (term.binary op.Or left right) env m l n h =
+        well_then _ _ _ _ _ (eval-well scope left env (pay 1 m) l.0 n h)
+          (λ t k e nk own. well_branch t (give t) (eval cx right env) k nk (well_end Fine (gave t) k nk own) (eval-well scope right env k l.1 nk (all_fine_more m.made k.made e env h)))
+    eval-well scope (term.binary op.Plus left right) env m l n h =
+        well_then _ _ _ _ _ (eval-well scope left env (pay 1 m) l.0 n h)
+          (λ x k e nk own. well_then _ _ _ _ _ (eval-well scope right env k l.1 nk (all_fine_more m.made k.made e env h)) (λ y i f ni oi. well_atom (operated op.Plus x y) i ni (valid_operated op.Plus x y)))
+    eval-well scope (term.binary op.Minus left right) env m l n h =
+        well_then _ _ _ _ _ (eval-well scope left env (pay 1 m) l.0 n h)
+          (λ x k e nk own. well_then _ _ _ _ _ (eval-well scope right env k l.1 nk (all_fine_more m.made k.made e env h)) (λ y i f ni oi. well_atom (operated op.Minus x y) i ni (valid_operated op.Minus x y)))
+    eval-well scope (term.binary op.Times left right) env m l n h =
+        well_then _ _ _ _ _ (eval-well scope left env (pay 1 m) l.0 n h)
+          (λ x k e nk own. well_then _ _ _ _ _ (eval-well scope right env k l.1 nk (all_fine_more m.made k.made e env h)) (λ y i f ni oi. well_atom (operated op.Times x y) i ni (valid_operated op.Times x y)))
+    eval-well scope (term.binary op.Equal left right) env m l n h =
+        well_then _ _ _ _ _ (eval-well scope left env (pay 1 m) l.0 n h)
+          (λ x k e nk own. well_then _ _ _ _ _ (eval-well scope right env k l.1 nk (all_fine_more m.made k.made e env h)) (λ y i f ni oi. well_atom (operated op.Equal x y) i ni (valid_operated op.Equal x y)))
+    eval-well scope (term.binary op.Less left right) env m l n h =
+        well_then _ _ _ _ _ (eval-well scope left env (pay 1 m) l.0 n h)
+          (λ x k e nk own. well_then _ _ _ _ _ (eval-well scope right env k l.1 nk (all_fine_more m.made k.made e env h)) (λ y i f ni oi. well_atom (operated op.Less x y) i ni (valid_operated op.Less x y)))
+    eval-well scope (term.element t attrs term.no_terms) env m l n h =
+        well_then (AttrsDistinct []) Fine m.made (eval_attrs cx attrs env (record { key = tree.Atom atom.Null; props = [] }) (pay 1 m)) (λ more k. make_element cx t more k)
+          (attrs-well scope attrs env [] (record { key = tree.Atom atom.Null; props = [] }) (pay 1 m) l.3 n h (tt, tt, tt, subst NoneTwice (sym (append-nil (names_of attrs))) l.1))
+          (λ more k e nk own. well_element t more k l.0 nk own)
+    eval-well scope (term.element t attrs (term.term_and first others)) env m l n h =
+        well_then (AttrsDistinct (codes "children" ∷ [])) Fine m.made (eval_attrs cx attrs env (record { key = tree.Atom atom.Null; props = [] }) (pay 1 m)) _
+          (attrs-well scope attrs env (codes "children" ∷ []) (record { key = tree.Atom atom.Null; props = [] }) (pay 1 m) l.3 n h (tt, tt, tt, twice_last (codes "children") (names_of attrs) l.1 l.2))
+          (λ more k e nk own. well_then AllFine Fine k.made (eval_all cx (term.term_and first others) env [] k) _ (all-well scope (term.term_and first others) env [] k l.4 nk (all_fine_more m.made k.made e env h) tt)
+            (λ inside i f ni oi. well_then (AttrsDistinct []) Fine i.made (with_children cx more inside i) (make_element cx t) (well_children more inside i ni (attrs_more (codes "children" ∷ []) k.made i.made f more own) oi)
+              (λ x j g nj oj. well_element t x j l.0 nj oj)))
+
+    all-well : (scope : ℕ) (ts : Terms) (env so_far : List Tree) (m : Machine) → AreLawful cx.over scope ts → Nodes m.made → AllFine m.made env → AllFine m.made so_far → Well AllFine m.made (eval_all cx ts env so_far m)
+    all-well scope term.no_terms env so_far m l n h k = well_end AllFine (gave so_far) m n k
+    all-well scope (term.term_and t rest) env so_far m l n h k =
+        well_then _ _ _ _ _ (eval-well scope t env m l.0 n h)
+          (λ v i e ni own. all-well scope rest env (so_far ++ v ∷ []) i l.1 ni (all_fine_more m.made i.made e env h) (each_append (Fine i.made) so_far (v ∷ []) (all_fine_more m.made i.made e so_far k) (own, tt)))
+
+    props-well : (scope : ℕ) (ts : Props) (env : List Tree) (so_far : List (List ℕ × Tree)) (m : Machine) → PropsLawful cx.over scope ts → Nodes m.made → AllFine m.made env → PropsFine m.made so_far → NoneTwice (names_in so_far ++ names_of ts)
+        → Well PropsDistinct m.made (eval_props cx ts env so_far m)
+    props-well scope term.no_props env so_far m l n h k d = well_end PropsDistinct (gave so_far) m n (k, subst NoneTwice (append-nil (names_in so_far)) d)
+    props-well scope (term.prop_and name t rest) env so_far m l n h k d =
+        well_then Fine PropsDistinct m.made (eval cx t env m) (λ v i. eval_props cx rest env (so_far ++ (name, v) ∷ []) i) (eval-well scope t env m l.0 n h)
+          (λ v i e ni own. props-well scope rest env (so_far ++ (name, v) ∷ []) i l.1 ni (all_fine_more m.made i.made e env h)
+            (each_append (λ p. Fine i.made p.1) so_far ((name, v) ∷ []) (props_more m.made i.made e so_far k) (own, tt)) (names_next so_far (name, v) (names_of rest) d))
+
+    pairs-well : (scope : ℕ) (ts : Pairs) (env so_far : List Tree) (m : Machine) → PairsLawful cx.over scope ts → Nodes m.made → AllFine m.made env → PairsFine m.made so_far → Well PairsFine m.made (eval_pairs cx ts env so_far m)
+    pairs-well scope term.no_pairs env so_far m l n h k = well_end PairsFine (gave so_far) m n k
+    pairs-well scope (term.pair_and key value rest) env so_far m l n h k =
+        well_then _ _ _ _ _ (eval-well scope key env m l.0 n h)
+          (λ x i e ni own. well_then Fine PairsFine i.made (eval cx value env i) (λ v j. eval_pairs cx rest env (so_far ++ x ∷ v ∷ []) j) (eval-well scope value env i l.1 ni (all_fine_more m.made i.made e env h))
+            (λ v j f nj oj. pairs-well scope rest env (so_far ++ x ∷ v ∷ []) j l.2 nj (all_fine_more m.made j.made (extends_trans m.made i.made j.made e f) env h)
+              (each_append (Fine j.made) so_far (x ∷ v ∷ []) (all_fine_more m.made j.made (extends_trans m.made i.made j.made e f) so_far k.0) (fine_more i.made j.made f x own, (oj, tt)),
+                (suc k.1.0, half_more k.1.0 so_far x v k.1.1))))
+
+    attrs-well : (scope : ℕ) (ts : Props) (env : List Tree) (tail : List (List ℕ)) (so_far : Attributes) (m : Machine) → PropsLawful cx.over scope ts → Nodes m.made → AllFine m.made env → AttrsDistinct (names_of ts ++ tail) m.made so_far
+        → Well (AttrsDistinct tail) m.made (eval_attrs cx ts env so_far m)
+    attrs-well scope term.no_props env tail so_far m l n h k = well_end (AttrsDistinct tail) (gave so_far) m n k
+    attrs-well scope (term.prop_and name t rest) env tail so_far m l n h k =
+        well_then Fine (AttrsDistinct tail) m.made (eval cx t env m) (λ v i. and_then (with_attribute so_far name v i) (λ more j. eval_attrs cx rest env more j)) (eval-well scope t env m l.0 n h)
+          (λ v i e ni own. well_then (AttrsDistinct (names_of rest ++ tail)) (AttrsDistinct tail) i.made (with_attribute so_far name v i) (λ more j. eval_attrs cx rest env more j)
+            (well_attribute (names_of rest ++ tail) so_far name v i ni (attrs_more (name ∷ (names_of rest ++ tail)) m.made i.made e so_far k) own)
+            (λ more j f nj oj. attrs-well scope rest env tail more j l.1 nj (all_fine_more m.made j.made (extends_trans m.made i.made j.made e f) env h) oj))
