@@ -34,11 +34,11 @@ use Rattle.flight_render.proofs.Larger.{no_body_below, node_body, next-keeps}
 
 -- ---- one body
 
-abbrev IsGave : End → Type 0
+abbrev pub IsGave : End → Type 0
 IsGave (gave x) = Unit {0}
 IsGave _ = ⊥
 
-gave_is : (t u : Tree) → ◌≡◌ {A = End} (gave t) (gave u) → t ≡ u
+pub gave_is : (t u : Tree) → ◌≡◌ {A = End} (gave t) (gave u) → t ≡ u
 gave_is t u h = ap tree_or h
   where
     tree_or : End → Tree
@@ -344,6 +344,16 @@ body_snoc g s (j ∷ a) i tables at here =
 pub body_with-tables : (g : Ground) (s : List Bool) (n : Name) → body_at g s (inner n) ≡ next_body g s (tables_for g s n) (inner n) (element_of (node_at g s n))
 unfolding body_at tables_at node_at
 body_with-tables g s n = body_snoc g s n.render n.serial [] [] (Some (root_body g s))
+
+tables_below_snoc : (g : Ground) (s : List Bool) (a : List ℕ) (i : ℕ) (tables : List (List Made)) (at : List ℕ) (here : Option (Run Tree))
+    → tables_below g s tables at here (a ++ i ∷ []) ≡ tables_with (tables_below g s tables at here a) (finished (body_below g s tables at here a))
+tables_below_snoc g s [] i tables at here = refl
+tables_below_snoc g s (j ∷ a) i tables at here =
+    tables_below_snoc g s a i (tables_with tables (finished here)) (at ++ j ∷ []) (next_body g s (tables_with tables (finished here)) (at ++ j ∷ []) (element_of (made_by (finished here) j)))
+
+pub tables_of-element : (g : Ground) (s : List Bool) (n : Name) → tables_at g s (inner n) ≡ tables_for g s n
+unfolding body_at tables_at
+tables_of-element g s n = tables_below_snoc g s n.render n.serial [] [] (Some (root_body g s))
 
 -- a server element that is there has a body, and its job comes to an end
 element_ends : (g : Ground) (s : List Bool) (n : Name) → is_server (node_at g s n) ≡ true → (h : End) × (comes g s (element n) ≡ Some h)

@@ -9,3 +9,4 @@ pub mod Paid
 pub mod Ordered
 pub mod Sourced
 pub mod Well
+pub mod There

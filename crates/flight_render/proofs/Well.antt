@@ -238,7 +238,7 @@ module _ (cx : Context) (valid : IsValidGround cx.over) (back : TablesLeadBack [
       go kind.Promise e = absurd (none-some t e)
       go (kind.Bound c) e = absurd (none-some t e)
 
-  items_fine : (made : List Made) → Nodes made → (t : Tree) (items : List Tree) → items_in cx.over (with_made made) t ≡ Some items → AllFine made items
+  pub items_fine : (made : List Made) → Nodes made → (t : Tree) (items : List Tree) → items_in cx.over (with_made made) t ≡ Some items → AllFine made items
   items_fine made n (tree.Made name) items is = read_fine (AllFine made) made_items (made_in (with_made made) name) (λ x e ys f. made_items-fine made x (node_made made n name x e).0 ys f) items is
   items_fine made n (tree.FromSource s i) items is =
       read_fine (AllFine made) (λ o. option_and_then (node_items o s) (node_in o i)) (slice_get (outcomes cx.over) s)
@@ -248,7 +248,7 @@ module _ (cx : Context) (valid : IsValidGround cx.over) (back : TablesLeadBack [
   items_fine made n (tree.Stream s) items is = absurd (none-some items is)
   items_fine made n (tree.Action s) items is = absurd (none-some items is)
 
-  property_fine : (made : List Made) → Nodes made → (name : List ℕ) (t u : Tree) → property_in cx.over (with_made made) name t ≡ Some u → Fine made u
+  pub property_fine : (made : List Made) → Nodes made → (name : List ℕ) (t u : Tree) → property_in cx.over (with_made made) name t ≡ Some u → Fine made u
   property_fine made n name (tree.Made q) u is = read_fine (Fine made) (made_property name) (made_in (with_made made) q) (λ x e y f. made_property-fine made name x (node_made made n q x e).0 y f) u is
   property_fine made n name (tree.FromSource s i) u is =
       read_fine (Fine made) (λ o. option_and_then (node_property o s name) (node_in o i)) (slice_get (outcomes cx.over) s)

@@ -32,6 +32,7 @@ use Rattle.flight_render.specs.declared.root.Root.TheVariants as root
 use Rattle.flight_render.specs.declared.job.What.{What}
 use Rattle.flight_render.specs.declared.job.What.TheVariants as what
 use Rattle.flight_render.specs.declared.job.Job.{Job}
+use Rattle.flight_render.specs.Run.{Step, gave, Run}
 use Rattle.flight_render.specs.Values.{outcomes, outcome_nodes, source_named, stream_named, made_in}
 use Rattle.flight_render.specs.Bodies.{inner, element_of}
 use Rattle.flight_render.specs.Laws.{TablesLeadBack}
@@ -227,6 +228,11 @@ TablesMade g tables = AllByRecursion (AllByRecursion (IsMade g tables)) tables
 pub record AreTables (g : Ground) (address : List ℕ) (tables : List (List Made)) : Type 0 where
   pub back : TablesLeadBack [] address tables
   pub made : TablesMade g tables
+
+-- a body's nodes are made well, and what it gives is named there
+pub record BodyMade (g : Ground) (tables : List (List Made)) (b : Run Tree) : Type 0 where
+  pub nodes : AllByRecursion (IsMade g (tables ++ b.after.made ∷ [])) b.after.made
+  pub value : (t : Tree) → b.step ≡ gave t → IsNamed g (tables ++ b.after.made ∷ []) t
 
 -- ---- jobs
 

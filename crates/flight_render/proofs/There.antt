@@ -1,0 +1,123 @@
+-- Over a valid ground every node that rendering names is there, and is made well.
+use Rattle.std.proofs.Common.{◌≡◌, ℕ, zero, suc, ◌+◌, ◌<◌, Bool, true, false, cond, nat_lt, ◌⊎◌, inl, inr, ⊎_elim, List, [], ◌∷◌, ◌++◌, map, length, Option, Some, None, unwrap_or, slice_get, refl, sym, ap, ap₂, ◌∙◌, subst, arith, append_assoc, append-nil}
+use Rattle.std.specs.Prelude.{option_and_then, option_map, is_some}
+use Rattle.std.specs.List.{AllByRecursion}
+use Rattle.std.proofs.lemmas.Option.{none-some}
+use Rattle.flight_value.specs.declared.graph.Graph.{Graph}
+use Rattle.flight_value.specs.declared.graph.Slot.{Slot}
+use Rattle.flight_value.specs.declared.graph.Slot.TheVariants as slot
+use Rattle.flight_value.specs.declared.made.Made.{Made}
+use Rattle.flight_value.specs.declared.made.MadeKind.{MadeKind}
+use Rattle.flight_value.specs.declared.made.MadeKind.TheVariants as kind
+use Rattle.flight_value.specs.declared.made.Tree.{Tree}
+use Rattle.flight_value.specs.declared.made.Tree.TheVariants as tree
+use Rattle.flight_value.specs.declared.name.Name.{Name}
+use Rattle.flight_syntax.specs.declared.program.Declared.{Declared}
+use Rattle.flight_syntax.specs.declared.program.Declared.TheVariants as declared
+use Rattle.flight_syntax.specs.declared.script.Outcome.TheVariants as outcome
+use Rattle.flight_render.specs.declared.root.Ground.{Ground}
+use Rattle.flight_render.specs.declared.root.Root.{Root}
+use Rattle.flight_render.specs.declared.root.Root.TheVariants as root
+use Rattle.flight_render.specs.Run.{Step, gave, threw, waits, Run, End, fail, and_then, on_step}
+use Rattle.flight_render.specs.Values.{made_in, items_in, property_in, tree_of, undefined}
+use Rattle.flight_render.specs.Operators.{depth_digest, type_digest}
+use Rattle.flight_render.specs.Eval.{Context, eval}
+use Rattle.flight_render.specs.Body.{Start, started, run_start, params_of, component_start, args_tree, action_start, root_start, body, root_body, fresh, give_last}
+use Rattle.flight_render.specs.Bodies.{inner, element_of, is_finished, finished, made_by, tables_with, next_body, body_at, node_at, tables_at, tables_for}
+use Rattle.flight_render.specs.Laws.{Met, Own, LeadBack, TablesLeadBack, NamesBack}
+use Rattle.flight_render.specs.Valid.{IsLawful, IsDeclared, IsValidGround, IsNamed, IsMade, TablesMade, BodyMade}
+use Rattle.flight_render.proofs.Names.{some-injective, tables_snoc, own_table}
+use Rattle.flight_render.proofs.Larger.{finished-is, node_body}
+use Rattle.flight_render.proofs.Falling.{IsGave, gave_is, body_at-good, body_with-tables, tables_of-element}
+use Rattle.flight_render.proofs.Sourced.{each_of, each_at, each_append, each_map, OnGave}
+use Rattle.flight_render.proofs.Well.{has_added, named_has, made_has, Well, items_fine, property_fine, eval-well}
+
+-- ---- one body
+
+-- a run that is made well, with the cost of its value
+made_run : (cx : Context) (v : IsValidGround cx.over) (b : TablesLeadBack [] cx.address cx.tables) (t : TablesMade cx.over cx.tables) (r : Run Tree)
+    → Well cx v b t (λ made u. IsNamed cx.over (cx.tables ++ made ∷ []) u) [] r → BodyMade cx.over cx.tables (and_then r give_last)
+made_run cx v b t r w = go r.step w.value
+  where
+    go : (s : Step Tree) → OnGave (IsNamed cx.over (cx.tables ++ r.after.made ∷ [])) s → BodyMade cx.over cx.tables (on_step s give_last r.after)
+    go (gave u) h = record { nodes = w.nodes; value = λ x is. subst (IsNamed cx.over (cx.tables ++ r.after.made ∷ [])) (gave_is u x is) h }
+    go (threw d) h = record { nodes = w.nodes; value = λ x is. elim (subst IsGave (sym is) tt) [ ] }
+    go (waits i) h = record { nodes = w.nodes; value = λ x is. elim (subst IsGave (sym is) tt) [ ] }
+
+made_fail : (g : Ground) (tables : List (List Made)) (d : List ℕ) → BodyMade g tables (fail d fresh)
+made_fail g tables d = record { nodes = tt; value = λ x is. elim (subst IsGave (sym is) tt) [ ] }
+
+-- a start whose expression is lawful and whose variables are named
+abbrev StartsWell : Ground → List (List Made) → Start → Type 0
+StartsWell g tables x = ((scope : ℕ) × IsLawful g scope x.expression) × AllByRecursion (IsNamed g (tables ++ [] ∷ [])) x.env
+
+made_start : (cx : Context) → IsValidGround cx.over → TablesLeadBack [] cx.address cx.tables → TablesMade cx.over cx.tables → (o : Option Start) → ((x : Start) → o ≡ Some x → StartsWell cx.over cx.tables x) → BodyMade cx.over cx.tables (run_start cx o)
+made_start cx v b t None h = made_fail cx.over cx.tables type_digest
+made_start cx v b t (Some x) h = go (nat_lt (length cx.address) 200)
+  where
+    go : (c : Bool) → BodyMade cx.over cx.tables (cond c (started cx x) (fail depth_digest fresh))
+    go true = made_run cx v b t (eval cx x.expression x.env fresh) (eval-well cx v b t (h x refl).0.0 x.expression x.env fresh (h x refl).0.1 tt (h x refl).1)
+    go false = made_fail cx.over cx.tables depth_digest
+
+declared_lawful : (g : Ground) → IsValidGround g → (number : ℕ) (d : Declared) → slice_get g.program.declared number ≡ Some d → IsDeclared g d
+declared_lawful g v number d e = each_at (IsDeclared g) g.program.declared number d (each_of (IsDeclared g) g.program.declared v.each) e
+
+-- the tables below a body
+tables_made : (g : Ground) (ts : List (List Made)) (made : List Made) → TablesMade g ts → AllByRecursion (IsMade g (ts ++ made ∷ [])) made → TablesMade g (ts ++ made ∷ [])
+tables_made g ts made t n =
+    each_append (AllByRecursion (IsMade g (ts ++ made ∷ []))) ts (made ∷ [])
+      (each_map (AllByRecursion (IsMade g ts)) (AllByRecursion (IsMade g (ts ++ made ∷ [])))
+        (λ x h. each_map (IsMade g ts) (IsMade g (ts ++ made ∷ [])) (made_has g ts (ts ++ made ∷ []) (has_added ts made)) x h) ts t)
+      (n, tt)
+
+-- ---- what a body begins with
+
+params_named : (g : Ground) (us : List (List Made)) (props : Tree) → ((name : List ℕ) (u : Tree) → property_in g us name props ≡ Some u → IsNamed g us u) → (params : List (List ℕ)) → AllByRecursion (IsNamed g (us ++ [] ∷ [])) (params_of g us props params)
+params_named g us props h [] = tt
+params_named g us props h (name ∷ names) = (go (property_in g us name props) refl, params_named g us props h names)
+  where
+    go : (o : Option Tree) → property_in g us name props ≡ o → IsNamed g (us ++ [] ∷ []) (unwrap_or o undefined)
+    go None e = tt
+    go (Some u) e = named_has g us (us ++ [] ∷ []) (has_added us []) u (h name u e)
+
+component_well : (g : Ground) → IsValidGround g → (us : List (List Made)) (props : Tree) → ((name : List ℕ) (u : Tree) → property_in g us name props ≡ Some u → IsNamed g us u)
+    → (o : Option Declared) → ((d : Declared) → o ≡ Some d → IsDeclared g d) → (x : Start) → component_start g us o props ≡ Some x → StartsWell g us x
+component_well g v us props h None l x is = absurd (none-some x is)
+component_well g v us props h (Some (declared.Client name import)) l x is = absurd (none-some x is)
+component_well g v us props h (Some (declared.Action name params e)) l x is = absurd (none-some x is)
+component_well g v us props h (Some (declared.Server name params e)) l x is =
+    subst (StartsWell g us) (some-injective _ x is) ((length params, (l (declared.Server name params e) refl).1), params_named g us props h params)
+
+made_body : (g : Ground) → IsValidGround g → (s : List Bool) (a : List ℕ) (n : ℕ) (ts : List (List Made)) (made : List Made) → TablesLeadBack [] a ts → LeadBack a 0 made → TablesMade g ts → AllByRecursion (IsMade g (ts ++ made ∷ [])) made
+    → (c : ℕ) (props : Tree) → BodyMade g (ts ++ made ∷ []) (body g s (ts ++ made ∷ []) c props (a ++ n ∷ []))
+unfolding body
+made_body g v s a n ts made back lead t nodes c props =
+    made_start (record { over = g; settled = s; address = a ++ n ∷ []; tables = ts ++ made ∷ [] }) v (tables_snoc [] a ts made n back lead) (tables_made g ts made t nodes)
+      (component_start g (ts ++ made ∷ []) (slice_get g.program.declared c) props)
+      (component_well g v (ts ++ made ∷ []) props
+        (λ name u is. property_fine (record { over = g; settled = s; address = a; tables = ts }) v back t made nodes name props u is)
+        (slice_get g.program.declared c) (λ d e. declared_lawful g v c d e))
+
+made_root : (g : Ground) → IsValidGround g → (s : List Bool) → BodyMade g [] (root_body g s)
+unfolding root_body
+made_root g v s = made_start (record { over = g; settled = s; address = []; tables = [] }) v tt tt (root_start g g.root) (λ x is. go g.root x is)
+  where
+    found : (o : Option ℕ) (d : Declared) → option_and_then (slice_get g.program.declared) o ≡ Some d → IsDeclared g d
+    found None d e = absurd (none-some d e)
+    found (Some i) d e = declared_lawful g v i d e
+    items : (args : Graph) (o : Option (List Tree)) → items_in g [] (args_tree g args) ≡ o → AllByRecursion (IsNamed g ([] ∷ [])) (unwrap_or o [])
+    items args None e = tt
+    items args (Some ts) e = from_slot args.root e
+      where
+        from_slot : (x : Slot) → items_in g [] (tree_of (outcome.Value args) (length g.script.sources) x) ≡ Some ts → AllByRecursion (IsNamed g ([] ∷ [])) ts
+        from_slot (slot.Atom a) q = absurd (none-some ts q)
+        from_slot (slot.Node n) q = items_fine (record { over = g; settled = s; address = []; tables = [] }) v tt tt [] tt (tree.FromSource (length g.script.sources) n) ts q
+    action : (args : Graph) (o : Option Declared) → ((d : Declared) → o ≡ Some d → IsDeclared g d) → (x : Start) → action_start g o args ≡ Some x → StartsWell g [] x
+    action args None l x is = absurd (none-some x is)
+    action args (Some (declared.Client name import)) l x is = absurd (none-some x is)
+    action args (Some (declared.Server name params e)) l x is = absurd (none-some x is)
+    action args (Some (declared.Action name params e)) l x is =
+        subst (StartsWell g []) (some-injective _ x is) ((length params, (l (declared.Action name params e) refl).1), items args (items_in g [] (args_tree g args)) refl)
+    go : (r : Root) (x : Start) → root_start g r ≡ Some x → StartsWell g [] x
+    go root.App x is = component_well g v [] undefined (λ name u q. absurd (none-some u q)) (option_and_then (slice_get g.program.declared) _) (found _) x is
+    go (root.Call number args) x is = action args (slice_get g.program.declared number) (λ d e. declared_lawful g v number d e) x is
