@@ -121,3 +121,78 @@ made_root g v s = made_start (record { over = g; settled = s; address = []; tabl
     go : (r : Root) (x : Start) → root_start g r ≡ Some x → StartsWell g [] x
     go root.App x is = component_well g v [] undefined (λ name u q. absurd (none-some u q)) (option_and_then (slice_get g.program.declared) _) (found _) x is
     go (root.Call number args) x is = action args (slice_get g.program.declared number) (λ d e. declared_lawful g v number d e) x is
+
+-- ---- the bodies of a whole rendering
+
+onto : (P : List ℕ → Type 0) → ((a : List ℕ) (i : ℕ) → P a → P (a ++ i ∷ [])) → (at rest : List ℕ) → P at → P (at ++ rest)
+onto P step at [] p = subst P (sym (append-nil at)) p
+onto P step at (i ∷ rest) p = subst P (append_assoc at (i ∷ []) rest) (onto P step (at ++ i ∷ []) rest (step at i p))
+
+met_cases : (a r : List ℕ) (k i : ℕ) → Met (a ++ i ∷ []) r k → Met a r k ⊎ (r ≡ a)
+met_cases [] [] k i h = inr refl
+met_cases [] (x ∷ r) k i h = elim h.1 [ ]
+met_cases (j ∷ a) [] k i h = inl h
+met_cases (j ∷ a) (x ∷ r) k i h = ⊎_elim (λ w. inl (h.0, w)) (λ e. inr (ap₂ (λ y z. y ∷ z) h.0 e)) (met_cases a r k i h.1)
+
+table_below : (above a r : List ℕ) (k : ℕ) (ts : List (List Made)) (made : List Made) → TablesLeadBack above a ts → Met a r k → slice_get (ts ++ made ∷ []) (length r) ≡ slice_get ts (length r)
+table_below above [] r k ts made g h = elim h [ ]
+table_below above (i ∷ a) r k [] made g h = elim g [ ]
+table_below above (i ∷ a) [] k (t ∷ ts) made g h = refl
+table_below above (i ∷ a) (j ∷ r) k (t ∷ ts) made g h = table_below (above ++ i ∷ []) a r k ts made g.1 h.1
+
+-- the tables of a body that is rendered: what the bodies at its proper prefixes made, which finish
+pub record Tabled (g : Ground) (s : List Bool) (a : List ℕ) (b : Run Tree) : Type 0 where
+  pub back : TablesLeadBack [] a (tables_at g s a)
+  pub tables : TablesMade g (tables_at g s a)
+  pub here : BodyMade g (tables_at g s a) b
+  pub prefixes : (r : List ℕ) (k : ℕ) (t : List Made) → Met a r k → slice_get (tables_at g s a) (length r) ≡ Some t → (c : Run Tree) × (body_at g s r ≡ Some c) × (is_finished c.step ≡ true) × (c.after.made ≡ t)
+
+AllTabled : Ground → List Bool → List ℕ → Type 0
+AllTabled g s a = (b : Run Tree) → body_at g s a ≡ Some b → Tabled g s a b
+
+tabled_root : (g : Ground) → IsValidGround g → (s : List Bool) → AllTabled g s []
+unfolding AllTabled body_at tables_at
+tabled_root g v s b is =
+    record { back = tt; tables = tt; here = subst (BodyMade g []) (some-injective _ b is) (made_root g v s); prefixes = λ r k t m e. elim m [ ] }
+
+tabled_next : (g : Ground) → IsValidGround g → (s : List Bool) (a : List ℕ) (i : ℕ) → AllTabled g s a → AllTabled g s (a ++ i ∷ [])
+unfolding AllTabled
+tabled_next g v s a i above b is = by_node (node_at g s name) refl
+  where
+    name : Name
+    name = record { render = a; serial = i }
+    next : next_body g s (tables_for g s name) (a ++ i ∷ []) (element_of (node_at g s name)) ≡ Some b
+    next = sym (body_with-tables g s name) ∙ is
+    build : (m : Made) → node_at g s name ≡ Some m → (c : Run Tree) → body_at g s a ≡ Some c → is_finished c.step ≡ true → (e : ℕ × Tree) → element_of (Some m) ≡ Some e → Tabled g s (a ++ i ∷ []) b
+    build m at c here fin e elem =
+        record {
+          back = subst (TablesLeadBack [] (a ++ i ∷ [])) (sym all) (tables_snoc [] a (tables_at g s a) c.after.made i k.back (body_at-good g s a c here).nodes);
+          tables = subst (TablesMade g) (sym all) (tables_made g (tables_at g s a) c.after.made k.tables k.here.nodes);
+          here = subst (λ z. BodyMade g z b) (sym all)
+            (subst (BodyMade g (tables_at g s a ++ c.after.made ∷ [])) same (made_body g v s a i (tables_at g s a) c.after.made k.back (body_at-good g s a c here).nodes k.tables k.here.nodes e.0 e.1));
+          prefixes = λ r j t met get. prefix r j t met (subst (λ z. slice_get z (length r) ≡ Some t) all get);
+        }
+      where
+        k : Tabled g s a c
+        k = above c here
+        tables : tables_for g s name ≡ tables_at g s a ++ c.after.made ∷ []
+        tables = ap (λ z. tables_with (tables_at g s a) (finished z)) here ∙ ap (tables_with (tables_at g s a)) (finished-is c fin)
+        all : tables_at g s (a ++ i ∷ []) ≡ tables_at g s a ++ c.after.made ∷ []
+        all = tables_of-element g s name ∙ tables
+        same : body g s (tables_at g s a ++ c.after.made ∷ []) e.0 e.1 (a ++ i ∷ []) ≡ b
+        same = some-injective _ b (ap₂ (λ z o. next_body g s z (a ++ i ∷ []) o) (sym tables) (sym (ap element_of at ∙ elem)) ∙ next)
+        prefix : (r : List ℕ) (j : ℕ) (t : List Made) → Met (a ++ i ∷ []) r j → slice_get (tables_at g s a ++ c.after.made ∷ []) (length r) ≡ Some t → (d : Run Tree) × (body_at g s r ≡ Some d) × (is_finished d.step ≡ true) × (d.after.made ≡ t)
+        prefix r j t met get =
+            ⊎_elim (λ w. k.prefixes r j t w (sym (table_below [] a r j (tables_at g s a) c.after.made k.back w) ∙ get))
+              (λ w. (c, ap (body_at g s) w ∙ here, fin, some-injective c.after.made t (sym (own_table [] a (tables_at g s a) c.after.made k.back) ∙ ap (λ z. slice_get (tables_at g s a ++ c.after.made ∷ []) (length z)) (sym w) ∙ get)))
+              (met_cases a r j i met)
+    by_element : (m : Made) → node_at g s name ≡ Some m → (o : Option (ℕ × Tree)) → element_of (Some m) ≡ o → Tabled g s (a ++ i ∷ []) b
+    by_element m at None e = absurd (none-some b (sym (ap (next_body g s (tables_for g s name) (a ++ i ∷ [])) (ap element_of at ∙ e)) ∙ next))
+    by_element m at (Some x) e = let c = node_body g s name m at in build m at c.0 c.1 c.2 x e
+    by_node : (o : Option Made) → node_at g s name ≡ o → Tabled g s (a ++ i ∷ []) b
+    by_node None e = absurd (none-some b (sym (ap (λ z. next_body g s (tables_for g s name) (a ++ i ∷ []) (element_of z)) e) ∙ next))
+    by_node (Some m) e = by_element m e (element_of (Some m)) refl
+
+pub body_tabled : (g : Ground) → IsValidGround g → (s : List Bool) (a : List ℕ) (b : Run Tree) → body_at g s a ≡ Some b → Tabled g s a b
+unfolding AllTabled
+body_tabled g v s a b is = onto (AllTabled g s) (tabled_next g v s) [] a (tabled_root g v s) b is
