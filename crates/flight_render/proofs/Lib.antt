@@ -10,3 +10,4 @@ pub mod Ordered
 pub mod Sourced
 pub mod Well
 pub mod There
+pub mod Closed

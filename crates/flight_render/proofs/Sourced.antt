@@ -69,7 +69,7 @@ abbrev pub IsValidOutcome : Outcome → Type 0
 IsValidOutcome (outcome.Value g) = IsValid g
 IsValidOutcome (outcome.Reject digest) = Unit {0}
 
-data_valid : (d : Data) → IsData d → IsValidOutcome d.outcome
+pub data_valid : (d : Data) → IsData d → IsValidOutcome d.outcome
 data_valid d h = go d.outcome h.1
   where
     go : (o : Outcome) → IsOutcome o → IsValidOutcome o

@@ -24,9 +24,9 @@ use Rattle.flight_render.specs.Operators.{depth_digest, type_digest}
 use Rattle.flight_render.specs.Eval.{Context, eval}
 use Rattle.flight_render.specs.Body.{Start, started, run_start, params_of, component_start, args_tree, action_start, root_start, body, root_body, fresh, give_last}
 use Rattle.flight_render.specs.Bodies.{inner, element_of, is_finished, finished, made_by, tables_with, next_body, body_at, node_at, tables_at, tables_for}
-use Rattle.flight_render.specs.Laws.{Met, Own, LeadBack, TablesLeadBack, NamesBack}
-use Rattle.flight_render.specs.Valid.{IsLawful, IsDeclared, IsValidGround, IsNamed, IsMade, TablesMade, BodyMade}
-use Rattle.flight_render.proofs.Names.{some-injective, tables_snoc, own_table}
+use Rattle.flight_render.specs.Laws.{Met, Own, AllOwn, LeadBack, TablesLeadBack, NamesBack}
+use Rattle.flight_render.specs.Valid.{IsLawful, IsDeclared, IsValidGround, IsNamed, MadeWell, IsMade, TablesMade, BodyMade, IsKnown, ShowsKnown}
+use Rattle.flight_render.proofs.Names.{some-injective, back_at, tables_snoc, own_table}
 use Rattle.flight_render.proofs.Larger.{finished-is, node_body}
 use Rattle.flight_render.proofs.Falling.{IsGave, gave_is, body_at-good, body_with-tables, tables_of-element}
 use Rattle.flight_render.proofs.Sourced.{each_of, each_at, each_append, each_map, OnGave}
@@ -196,3 +196,59 @@ tabled_next g v s a i above b is = by_node (node_at g s name) refl
 pub body_tabled : (g : Ground) → IsValidGround g → (s : List Bool) (a : List ℕ) (b : Run Tree) → body_at g s a ≡ Some b → Tabled g s a b
 unfolding AllTabled
 body_tabled g v s a b is = onto (AllTabled g s) (tabled_next g v s) [] a (tabled_root g v s) b is
+
+-- ---- what is there
+
+-- a node that a body may name is there
+there : (g : Ground) → IsValidGround g → (s : List Bool) (a : List ℕ) (b : Run Tree) → body_at g s a ≡ Some b → is_finished b.step ≡ true → (k : ℕ) (n : Name) → Own a k (tree.Made n)
+    → (m : Made) → made_in (tables_at g s a ++ b.after.made ∷ []) n ≡ Some m → node_at g s n ≡ Some m
+unfolding node_at
+there g v s a b is fin k n own m e = ⊎_elim (λ w. here w.0) (λ w. above w (slice_get (tables_at g s a ++ b.after.made ∷ []) (length n.render)) refl e) own
+  where
+    t : Tabled g s a b
+    t = body_tabled g v s a b is
+    here : n.render ≡ a → made_by (finished (body_at g s n.render)) n.serial ≡ Some m
+    here q =
+        ap (λ z. made_by (finished z) n.serial) (ap (body_at g s) q ∙ is) ∙ ap (λ z. made_by z n.serial) (finished-is b fin)
+        ∙ sym (ap (option_and_then (λ z. slice_get z n.serial)) (ap (λ z. slice_get (tables_at g s a ++ b.after.made ∷ []) (length z)) q ∙ own_table [] a (tables_at g s a) b.after.made t.back)) ∙ e
+    above : Met a n.render n.serial → (o : Option (List Made)) → slice_get (tables_at g s a ++ b.after.made ∷ []) (length n.render) ≡ o → option_and_then (λ z. slice_get z n.serial) o ≡ Some m → made_by (finished (body_at g s n.render)) n.serial ≡ Some m
+    above w None q r = absurd (none-some m r)
+    above w (Some x) q r =
+        let c = t.prefixes n.render n.serial x w (sym (table_below [] a n.render n.serial (tables_at g s a) b.after.made t.back w) ∙ q) in
+        ap (λ z. made_by (finished z) n.serial) c.1 ∙ ap (λ z. made_by z n.serial) (finished-is c.0 c.2) ∙ ap (λ z. slice_get z n.serial) c.3 ∙ r
+
+known_named : (g : Ground) → IsValidGround g → (s : List Bool) (a : List ℕ) (b : Run Tree) → body_at g s a ≡ Some b → is_finished b.step ≡ true → (k : ℕ) (t : Tree) → Own a k t → IsNamed g (tables_at g s a ++ b.after.made ∷ []) t → IsKnown g s t
+known_named g v s a b is fin k (tree.Made n) own h = (h.0, there g v s a b is fin k n own h.0 h.1)
+known_named g v s a b is fin k (tree.Atom x) own h = h
+known_named g v s a b is fin k (tree.FromSource i n) own h = h
+known_named g v s a b is fin k (tree.Promise i) own h = h
+known_named g v s a b is fin k (tree.Stream i) own h = h
+known_named g v s a b is fin k (tree.Action i) own h = h
+
+-- what names no node made is there
+pub known_alone : (g : Ground) (s : List Bool) (t : Tree) → IsNamed g [] t → IsKnown g s t
+known_alone g s (tree.Made n) h = absurd (none-some h.0 h.1)
+known_alone g s (tree.Atom x) h = h
+known_alone g s (tree.FromSource i n) h = h
+known_alone g s (tree.Promise i) h = h
+known_alone g s (tree.Stream i) h = h
+known_alone g s (tree.Action i) h = h
+
+-- the slots of a node that is there are there, and it is made well
+pub node_known : (g : Ground) → IsValidGround g → (s : List Bool) (n : Name) (m : Made) → node_at g s n ≡ Some m → AllByRecursion (IsKnown g s) m.slots × ((us : List (List Made)) × MadeWell g us m.kind m.slots)
+node_known g v s n m is = (all m.slots (back_at n.render b.0.after.made n.serial m (body_at-good g s n.render b.0 b.1).nodes b.3) made.0, (tables_at g s n.render ++ b.0.after.made ∷ [], made.1))
+  where
+    b : (b : Run Tree) × (body_at g s n.render ≡ Some b) × (is_finished b.step ≡ true) × (slice_get b.after.made n.serial ≡ Some m)
+    b = node_body g s n m is
+    t : Tabled g s n.render b.0
+    t = body_tabled g v s n.render b.0 b.1
+    made : IsMade g (tables_at g s n.render ++ b.0.after.made ∷ []) m
+    made = each_at (IsMade g (tables_at g s n.render ++ b.0.after.made ∷ [])) b.0.after.made n.serial m t.here.nodes b.3
+    all : (ts : List Tree) → AllOwn n.render n.serial ts → AllByRecursion (IsNamed g (tables_at g s n.render ++ b.0.after.made ∷ [])) ts → AllByRecursion (IsKnown g s) ts
+    all [] o h = tt
+    all (x ∷ ts) o h = (known_named g v s n.render b.0 b.1 b.2 n.serial x o.0 h.0, all ts o.1 h.1)
+
+-- what a body gives is there
+pub gives_known : (g : Ground) → IsValidGround g → (s : List Bool) (a : List ℕ) (b : Run Tree) → body_at g s a ≡ Some b → (t : Tree) → b.step ≡ gave t → IsKnown g s t
+gives_known g v s a b is t e =
+    known_named g v s a b is (ap is_finished e) (length b.after.made) t ((body_at-good g s a b is).value t e) ((body_tabled g v s a b is).here.value t e)

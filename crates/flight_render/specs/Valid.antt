@@ -1,5 +1,5 @@
 -- Which grounds are valid, which nodes a body makes, and which jobs belong to a ground.
-use Rattle.std.specs.Prelude.{ℕ, suc, ◌+◌, ◌-◌, ◌^◌, ◌≡◌, ◌≢◌, ◌<◌, ◌≤ℤ◌, ℤ, pos, negsuc, true, List, [], ◌∷◌, ◌++◌, map, length, Option, Some, slice_get, All, codes, is_some}
+use Rattle.std.specs.Prelude.{ℕ, suc, ◌+◌, ◌-◌, ◌^◌, ◌≡◌, ◌≢◌, ◌<◌, ◌≤ℤ◌, ℤ, pos, negsuc, Bool, true, List, [], ◌∷◌, ◌++◌, map, length, Option, Some, slice_get, All, codes, is_some}
 use Rattle.std.specs.List.{AllByRecursion}
 use Rattle.flight_value.specs.Date.{IsDate}
 use Rattle.flight_value.specs.Graph.{IsSafe, IsValid, IsValidAtom, IsValidSlot, Ascend, slots_of}
@@ -34,7 +34,8 @@ use Rattle.flight_render.specs.declared.job.What.TheVariants as what
 use Rattle.flight_render.specs.declared.job.Job.{Job}
 use Rattle.flight_render.specs.Run.{Step, gave, Run}
 use Rattle.flight_render.specs.Values.{outcomes, outcome_nodes, source_named, stream_named, made_in}
-use Rattle.flight_render.specs.Bodies.{inner, element_of}
+use Rattle.flight_render.specs.Bodies.{inner, element_of, node_at}
+use Rattle.flight_render.specs.Jobs.{Value, shown, of_job, known, argument_in}
 use Rattle.flight_render.specs.Laws.{TablesLeadBack}
 
 -- ---- declarations
@@ -233,6 +234,23 @@ pub record AreTables (g : Ground) (address : List ℕ) (tables : List (List Made
 pub record BodyMade (g : Ground) (tables : List (List Made)) (b : Run Tree) : Type 0 where
   pub nodes : AllByRecursion (IsMade g (tables ++ b.after.made ∷ [])) b.after.made
   pub value : (t : Tree) → b.step ≡ gave t → IsNamed g (tables ++ b.after.made ∷ []) t
+
+-- ---- what is there
+
+-- a value whose numbers are in range, and whose node made is there
+abbrev pub IsKnown : Ground → List Bool → Tree → Type 0
+IsKnown g settled (tree.Atom a) = IsValidAtom a
+IsKnown g settled (tree.Made n) = (m : Made) × (node_at g settled n ≡ Some m)
+IsKnown g settled (tree.FromSource source n) = (o : Outcome) × (slice_get (outcomes g) source ≡ Some o) × (n < length (outcome_nodes o))
+IsKnown g settled (tree.Promise source) = source < length g.script.sources
+IsKnown g settled (tree.Stream stream) = stream < length g.script.streams
+IsKnown g settled (tree.Action action) = IsActionAt g action
+
+-- of a value that is reached: what it shows is there
+abbrev pub ShowsKnown : Ground → List Bool → Value → Type 0
+ShowsKnown g settled (shown t) = IsKnown g settled t
+ShowsKnown g settled (of_job (known slot)) = IsKnown g settled (argument_in g slot)
+ShowsKnown g settled v = Unit {0}
 
 -- ---- jobs
 
