@@ -7,6 +7,7 @@ use Rattle.std.proofs.lemmas.Bool.{false≢true}
 use Rattle.flight_value.specs.Graph.{IsValid, IsValidSlot, slots_of}
 use Rattle.flight_value.specs.Store as target
 use Rattle.flight_value.specs.Store.{Target, Shape, Label}
+use Rattle.flight_value.specs.declared.graph.Atom.TheVariants as atom
 use Rattle.flight_value.specs.declared.graph.Graph.{Graph}
 use Rattle.flight_value.specs.declared.graph.Slot.{Slot}
 use Rattle.flight_value.specs.declared.graph.Node.{Node}
@@ -30,11 +31,13 @@ use Rattle.flight_render.specs.declared.root.Root.TheVariants as root
 use Rattle.flight_render.specs.Run.{Step, gave, threw, waits, Run, End}
 use Rattle.flight_render.specs.Values.{arguments, outcomes, outcome_nodes, node_in, tree_of, is_settled, end_if, source_end, undefined}
 use Rattle.flight_render.specs.Bodies.{inner, element_of, body_at, node_at}
-use Rattle.flight_render.specs.Jobs.{Job, the_root, element, outcome, known, blank, Value, shown, of_job, failed, stopped, is_server, job_of, argument, argument_in, comes, value_of, target_of, IsTarget}
+use Rattle.flight_render.specs.Jobs.{Job, the_root, element, outcome, known, blank, Value, shown, of_job, failed, stopped, is_server, job_of, argument, argument_in, comes, value_of, Leads, IsFinal, target_of, IsTarget, Stands}
 use Rattle.flight_render.specs.Plain.{flow_slots, last_job, flow_last, flow_item, flow, label_of_kind, made_shape, source_slots, source_shape, flow_shape, shape_at, NodeIs}
 use Rattle.flight_render.specs.Costs.{In, Reached, at_root, through, in_slot}
 use Rattle.flight_render.specs.Valid.{IsValidGround, IsRoot, IsNamed, MadeWell, IsKnown, ShowsKnown}
+use Rattle.flight_render.specs.Laws.{Grows}
 use Rattle.flight_render.proofs.Names.{some-injective}
+use Rattle.flight_render.proofs.Larger.{IsThere, job_of-none, leads-keeps}
 use Rattle.flight_render.proofs.Falling.{bodied}
 use Rattle.flight_render.proofs.Sourced.{each_of, each_at, each_append, mapped_each, IsValidOutcome, OnGave, slot_named, node_valid, outcome_valid, source_is-named}
 use Rattle.flight_render.proofs.There.{known_alone, node_known, gives_known}
@@ -279,3 +282,37 @@ closed g v s x r none k is = go x (reached_known g v s x r) none is
     go (failed d) w no_job e = elim (subst IsAtomTarget (sym e) tt) [ ]
     go (stopped i) w no_job e = elim (subst IsAtomTarget (sym e) tt) [ ]
     go (of_job j) w no_job e = elim (subst IsAtomTarget (sym e) tt) [ ]
+
+-- ---- more settled sources
+
+reached_leads : (g : Ground) (s : List Bool) (x : Value) (js : List Job) (w : Value) → Reached g s x → Leads g s x js w → Reached g s w
+reached_leads g s x [] w r l = subst (Reached g s) l r
+reached_leads g s x (j ∷ js) w r l = reached_leads g s (value_of g s j l.1.0) js w (through r l.0 l.1.1) l.1.2
+
+there_of : (g : Ground) (s : List Bool) (x : Value) → ShowsKnown g s x → IsThere g s x
+there_of g s (shown (tree.Made n)) w = w
+there_of g s (shown (tree.Atom a)) w = tt
+there_of g s (shown (tree.FromSource i n)) w = tt
+there_of g s (shown (tree.Promise i)) w = tt
+there_of g s (shown (tree.Stream i)) w = tt
+there_of g s (shown (tree.Action i)) w = tt
+there_of g s (of_job j) w = tt
+there_of g s (failed d) w = tt
+there_of g s (stopped i) w = tt
+
+-- a value that stands for what is not pending goes on standing for it
+pub stands-keeps : (g : Ground) → IsValidGround g → (few many : List Bool) → Grows few many → (x : Value) → Reached g few x → (t : Target Key) → Stands g few x t → (t ≡ target.atom atom.Pending → ⊥) → Stands g many x t
+stands-keeps g v few many gr x r t a not =
+    record {
+      jobs = a.jobs;
+      last = a.last;
+      leads = leads-keeps g few many gr x a.jobs a.last a.leads (final a.last a.is_target);
+      no_job = job_of-none g few many gr a.last (there_of g few a.last (reached_known g v few a.last (reached_leads g few x a.jobs a.last r a.leads))) a.no_job;
+      is_target = a.is_target;
+    }
+  where
+    final : (w : Value) → t ≡ target_of w → IsFinal w
+    final (shown y) e = tt
+    final (of_job j) e = tt
+    final (failed d) e = tt
+    final (stopped i) e = absurd (not e)

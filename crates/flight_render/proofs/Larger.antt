@@ -22,7 +22,7 @@ use Rattle.flight_render.specs.Body.{Start, started, run_start, component_start,
 use Rattle.flight_render.specs.Bodies.{inner, element_of, Finishes, is_finished, finished, made_by, tables_with, next_body, body_below, body_at, node_at, tables_below, tables_at, tables_for, TabledFor}
 use Rattle.flight_render.specs.Jobs.{Job, the_root, element, outcome, known, blank, Value, shown, of_job, failed, stopped, IsFinal, is_server, job_of, job_body, comes, value_of, Leads, target_of, IsTarget, Stands}
 use Rattle.flight_render.specs.Plain.{Flowed, flow_slots, last_job, flow_last, flow_item, flow, made_shape, flow_shape, shape_at, NodeIs}
-use Rattle.flight_render.specs.Costs.{In, Reached, at_root, through, in_slot, Rendered, address_of}
+use Rattle.flight_render.specs.Costs.{In, Reached, at_root, through, in_slot, waits_at, flow_stop, Stops, Rendered, address_of}
 use Rattle.flight_render.specs.Laws.{Grows, Stays, IsLasting}
 use Rattle.flight_render.proofs.Grows.{keeps, with_settled, eval-keeps, source-keeps}
 use Rattle.flight_render.proofs.Names.{some-injective}
@@ -279,11 +279,6 @@ node-final (of_job j) k is = tt
 node-final (failed d) k is = tt
 node-final (stopped i) k is = elim (subst IsAtom (sym is) tt) [ ]
 
-end-stays : (g : Ground) (s many : List Bool) (j : Job) (h : End) → IsFinal (value_of g s j h) → Stays many h
-end-stays g s many j (gave t) w = tt
-end-stays g s many j (threw d) w = tt
-end-stays g s many j (waits i) w = absurd (elim w [ ])
-
 -- ---- streams: the slots that there are with few sources are there with more
 
 last-keeps : (g : Ground) (few many : List Bool) → Grows few many → (j : Job) (x : Value) → In x (flow_slots (flow_last j (comes g few j))) → In x (flow_slots (flow_last j (comes g many j)))
@@ -325,14 +320,64 @@ slot-keeps g few many gr (key.Stream f) shape x h i = go (slice_get g.script.str
 
 -- ---- what is reached, rendered and counted
 
-pub reached-keeps : (g : Ground) (few many : List Bool) → Grows few many → (x : Value) → Reached g few x → IsFinal x → Reached g many x
-reached-keeps g few many gr x at_root w = at_root
-reached-keeps g few many gr x (through {v = d} {j = j} {end = h} y is by) w =
+-- a value that more settled sources do not change
+abbrev pub StaysValue : List Bool → Value → Type 0
+StaysValue many (stopped i) = is_settled many i ≡ false
+StaysValue many x = Unit {0}
+
+value-stays : (g : Ground) (s many : List Bool) (j : Job) (h : End) → StaysValue many (value_of g s j h) → Stays many h
+value-stays g s many j (gave t) w = tt
+value-stays g s many j (threw d) w = tt
+value-stays g s many j (waits i) w = w
+
+final-stays : (many : List Bool) (x : Value) → IsFinal x → StaysValue many x
+final-stays many (of_job k) w = tt
+final-stays many (shown t) w = tt
+final-stays many (failed d) w = tt
+final-stays many (stopped i) w = elim w [ ]
+
+pub reached-stays : (g : Ground) (few many : List Bool) → Grows few many → (x : Value) → Reached g few x → StaysValue many x → Reached g many x
+reached-stays g few many gr x at_root w = at_root
+reached-stays g few many gr x (through {v = d} {j = j} {end = h} y is by) w =
     subst (Reached g many) (value-keeps g few many j h)
-      (through (reached-keeps g few many gr d y (has_job-final g few d j is)) (job_of-keeps g few many gr d j is) (comes-keeps g few many gr j h by (end-stays g few many j h w)))
-reached-keeps g few many gr x (in_slot {v = d} {k = k} {shape = shape} y stops is at among) w =
+      (through (reached-stays g few many gr d y (final-stays many d (has_job-final g few d j is))) (job_of-keeps g few many gr d j is) (comes-keeps g few many gr j h by (value-stays g few many j h w)))
+reached-stays g few many gr x (in_slot {v = d} {k = k} {shape = shape} y stops is at among) w =
     let after = slot-keeps g few many gr k shape x at among in
-    in_slot (reached-keeps g few many gr d y (node-final d k is)) (job_of-none g few many gr d (there_by-shape g few d k shape is at) stops) is after.1 after.2
+    in_slot (reached-stays g few many gr d y (final-stays many d (node-final d k is))) (job_of-none g few many gr d (there_by-shape g few d k shape is at) stops) is after.1 after.2
+
+pub reached-keeps : (g : Ground) (few many : List Bool) → Grows few many → (x : Value) → Reached g few x → IsFinal x → Reached g many x
+reached-keeps g few many gr x r w = reached-stays g few many gr x r (final-stays many x w)
+
+-- ---- what is waited for
+
+waits_at-keeps : (g : Ground) (few many : List Bool) → Grows few many → (j : Job) (later after : Option ℕ) (i : ℕ) → is_settled many i ≡ false → (later ≡ Some i → after ≡ Some i) → waits_at (comes g few j) later ≡ Some i → waits_at (comes g many j) after ≡ Some i
+waits_at-keeps g few many gr j later after i not same is = go (comes g few j) refl is
+  where
+    go : (o : Option End) → comes g few j ≡ o → waits_at o later ≡ Some i → waits_at (comes g many j) after ≡ Some i
+    go None e w = absurd (none-some i w)
+    go (Some (threw d)) e w = absurd (none-some i w)
+    go (Some (gave t)) e w = ap (λ z. waits_at z after) (comes-keeps g few many gr j (gave t) e tt) ∙ same w
+    go (Some (waits s)) e w = ap (λ z. waits_at z after) (comes-keeps g few many gr j (waits s) e (subst (λ z. is_settled many z ≡ false) (sym (some-injective s i w)) not)) ∙ w
+
+flow_stop-keeps : (g : Ground) (few many : List Bool) → Grows few many → (is : List ℕ) (last : Option ℕ) (i : ℕ) → is_settled many i ≡ false → flow_stop g few is last ≡ Some i → flow_stop g many is last ≡ Some i
+flow_stop-keeps g few many gr [] last i not is = waits_at-keeps g few many gr (last_job last) None None i not (λ e. e) is
+flow_stop-keeps g few many gr (s ∷ rest) last i not is =
+    waits_at-keeps g few many gr (outcome s) (flow_stop g few rest last) (flow_stop g many rest last) i not (λ e. flow_stop-keeps g few many gr rest last i not e) is
+
+-- what waits for a source goes on waiting until it is settled
+pub stops-keeps : (g : Ground) (few many : List Bool) → Grows few many → (i : ℕ) → is_settled many i ≡ false → Stops g few i → Stops g many i
+stops-keeps g few many gr i not (inl r) = inl (reached-stays g few many gr (stopped i) r not)
+stops-keeps g few many gr i not (inr x) =
+    inr (record {
+      number = x.number;
+      flows = x.flows;
+      is_stream = x.is_stream;
+      value = x.value;
+      met = reached-stays g few many gr x.value x.met (final-stays many x.value (node-final x.value (key.Stream x.number) x.leads));
+      no_job = job_of-none g few many gr x.value (there_by-shape g few x.value (key.Stream x.number) (flow_shape g few x.flows) x.leads (ap (option_map (flow_shape g few)) x.is_stream)) x.no_job;
+      leads = x.leads;
+      stop = flow_stop-keeps g few many gr x.flows.items x.flows.last i not x.stop;
+    })
 
 pub finishes-stays : (many : List Bool) (h : End) → Finishes h → Stays many h
 finishes-stays many (gave t) w = tt
