@@ -4,11 +4,10 @@ use Rattle.std.specs.Prelude.{option_and_then, option_map, is_some}
 use Rattle.std.specs.List.{AllByRecursion}
 use Rattle.std.proofs.lemmas.Option.{none-some}
 use Rattle.std.proofs.lemmas.Bool.{false≢true}
-use Rattle.flight_value.specs.Graph.{IsValid, IsValidSlot, slots_of}
+use Rattle.flight_value.specs.Graph.{IsValidSlot, slots_of}
 use Rattle.flight_value.specs.Store as target
 use Rattle.flight_value.specs.Store.{Target, Shape, Label}
 use Rattle.flight_value.specs.declared.graph.Atom.TheVariants as atom
-use Rattle.flight_value.specs.declared.graph.Graph.{Graph}
 use Rattle.flight_value.specs.declared.graph.Slot.{Slot}
 use Rattle.flight_value.specs.declared.graph.Node.{Node}
 use Rattle.flight_value.specs.declared.graph.Node.TheVariants as node
@@ -23,23 +22,22 @@ use Rattle.flight_value.specs.declared.name.Name.{Name}
 use Rattle.flight_syntax.specs.declared.script.Outcome.{Outcome}
 use Rattle.flight_syntax.specs.declared.script.Outcome.TheVariants as outcomes_of
 use Rattle.flight_syntax.specs.declared.script.Data.{Data}
-use Rattle.flight_syntax.specs.declared.script.Flowing.{Flowing}
 use Rattle.flight_syntax.specs.Script.{IsData, IsOutcome, IsSourceKind, IsSourceNode}
 use Rattle.flight_render.specs.declared.root.Ground.{Ground}
 use Rattle.flight_render.specs.declared.root.Root.{Root}
 use Rattle.flight_render.specs.declared.root.Root.TheVariants as root
-use Rattle.flight_render.specs.Run.{Step, gave, threw, waits, Run, End}
-use Rattle.flight_render.specs.Values.{arguments, outcomes, outcome_nodes, node_in, tree_of, is_settled, end_if, source_end, undefined}
-use Rattle.flight_render.specs.Bodies.{inner, element_of, body_at, node_at}
+use Rattle.flight_render.specs.Run.{gave, threw, waits, End}
+use Rattle.flight_render.specs.Values.{arguments, outcomes, outcome_nodes, node_in, tree_of, is_settled, source_end}
+use Rattle.flight_render.specs.Bodies.{inner, body_at, node_at}
 use Rattle.flight_render.specs.Jobs.{Job, the_root, element, outcome, known, blank, Value, shown, of_job, failed, stopped, is_server, job_of, argument, argument_in, comes, value_of, Leads, IsFinal, target_of, IsTarget, Stands}
-use Rattle.flight_render.specs.Plain.{flow_slots, last_job, flow_last, flow_item, flow, label_of_kind, made_shape, source_slots, source_shape, flow_shape, shape_at, NodeIs}
+use Rattle.flight_render.specs.Plain.{flow_slots, last_job, flow_last, flow_item, flow, label_of_kind, made_shape, source_slots, source_shape, flow_shape, NodeIs}
 use Rattle.flight_render.specs.Costs.{In, Reached, at_root, through, in_slot}
-use Rattle.flight_render.specs.Valid.{IsValidGround, IsRoot, IsNamed, MadeWell, IsKnown, ShowsKnown}
+use Rattle.flight_render.specs.Valid.{IsValidGround, IsNamed, MadeWell, IsKnown, ShowsKnown}
 use Rattle.flight_render.specs.Laws.{Grows}
 use Rattle.flight_render.proofs.Names.{some-injective}
 use Rattle.flight_render.proofs.Larger.{IsThere, job_of-none, leads-keeps}
 use Rattle.flight_render.proofs.Falling.{bodied}
-use Rattle.flight_render.proofs.Sourced.{each_of, each_at, each_append, mapped_each, IsValidOutcome, OnGave, slot_named, node_valid, outcome_valid, source_is-named}
+use Rattle.flight_render.proofs.Sourced.{each_of, each_at, mapped_each, OnGave, slot_named, node_valid, outcome_valid, source_is-named}
 use Rattle.flight_render.proofs.There.{known_alone, node_known, gives_known}
 
 -- ---- a source's slots
@@ -92,9 +90,9 @@ held_known g v s i n o e held is = go (script_or-arguments g.script.sources (arg
         let a = one_argument g.root w.0 o w.2 in
         let first : i ≡ length g.script.sources = (let q = w.1 in let z = a.0 in omega (arith, q, z)) in
         subst (IsKnown g s) (sym (a.1 (length g.script.sources) held))
-          (known_alone g s (tree_of o (length g.script.sources) held)
-            (slot_named g [] (length g.script.sources) o (subst (λ z. slice_get (outcomes g) z ≡ Some o) first e) held
-              (node_valid o n (node.Promise held) (outcome_valid g v i o e) is).0))
+        (known_alone g s (tree_of o (length g.script.sources) held)
+        (slot_named g [] (length g.script.sources) o (subst (λ z. slice_get (outcomes g) z ≡ Some o) first e) held
+        (node_valid o n (node.Promise held) (outcome_valid g v i o e) is).0))
 
 -- ---- slots of nodes
 
@@ -111,6 +109,7 @@ source_known g v s i n o e x is = go x is (node_valid o n x (outcome_valid g v i
   where
     all : (xs : List Slot) → AllByRecursion (IsValidSlot (length (outcome_nodes o))) xs → AllKnown g s (map (λ y. shown (tree_of o i y)) xs)
     all xs h = mapped_each (IsValidSlot (length (outcome_nodes o))) (ShowsKnown g s) (λ y. shown (tree_of o i y)) (λ y w. known_alone g s (tree_of o i y) (slot_named g [] i o e y w)) xs h
+
     go : (x : Node) → node_in o n ≡ Some x → AllByRecursion (IsValidSlot (length (outcome_nodes o))) (slots_of x) → AllKnown g s (source_slots o i x)
     go (node.Promise held) q h = (held_known g v s i n o e held q, tt)
     go (node.Array items) q h = all (slots_of (node.Array items)) h
@@ -152,7 +151,7 @@ node_slots-known g v s (key.Made n) shape is = go (node_at g s n) refl is
     go None q e = absurd (none-some shape e)
     go (Some m) q e =
         given_known g s (λ label. record { label = label; slots = map shown m.slots }) (label_of_kind g m.kind)
-          (λ l r. mapped_each (IsKnown g s) (ShowsKnown g s) shown (λ t w. w) m.slots (node_known g v s n m q).0) shape e
+        (λ l r. mapped_each (IsKnown g s) (ShowsKnown g s) shown (λ t w. w) m.slots (node_known g v s n m q).0) shape e
 node_slots-known g v s (key.Source i n) shape is = go (slice_get (outcomes g) i) refl is
   where
     go : (o : Option Outcome) → slice_get (outcomes g) i ≡ o → option_and_then (λ x. option_map (source_shape x i) (node_in x n)) o ≡ Some shape → AllKnown g s shape.slots
@@ -225,6 +224,7 @@ made_label g us m w not = go m.kind w not
   where
     second : (ts : List Tree) (c : ℕ) (k p : Tree) → ts ≡ k ∷ p ∷ [] → is_some {T = ℕ × Tree} (option_map (λ t. (c, t)) (slice_get ts 1)) ≡ true
     second ts c k p e = ap (λ z. is_some {T = ℕ × Tree} (option_map (λ t. (c, t)) (slice_get z 1))) e
+
     go : (k : MadeKind) → MadeWell g us k m.slots → is_server (Some (record { kind = k; slots = m.slots })) ≡ false → (l : Label) × (label_of_kind g k ≡ Some l)
     go kind.Array h q = (_, refl)
     go (kind.Object names) h q = (_, refl)
@@ -256,9 +256,11 @@ made_has-shape g v s n m is none = go (made_label g w.1.0 m w.1.1 (not (is_serve
   where
     w : AllByRecursion (IsKnown g s) m.slots × ((us : List (List Made)) × MadeWell g us m.kind m.slots)
     w = node_known g v s n m is
+
     not : (b : Bool) → is_server (Some m) ≡ b → is_server (Some m) ≡ false
     not false e = e
     not true e = absurd (none-some (element n) (sym none ∙ ap (λ z. cond z (Some (element n)) None) (ap is_server is ∙ e)))
+
     go : (l : Label) × (label_of_kind g m.kind ≡ Some l) → HasShape g s (key.Made n)
     go l = (record { label = l.0; slots = map shown m.slots }, ap (option_and_then (made_shape g)) is ∙ ap (option_map (λ label. record { label = label; slots = map shown m.slots })) l.1)
 

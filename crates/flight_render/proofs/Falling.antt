@@ -1,6 +1,6 @@
 -- A chain of server elements never comes back to an element, and ends.
-use Rattle.std.proofs.Common.{◌≡◌, ℕ, zero, suc, ◌+◌, ◌≤◌, ◌<◌, Bool, true, false, cond, nat_lt, ◌⊎◌, inl, inr, ⊎_elim, List, [], ◌∷◌, ◌++◌, map, length, Option, Some, None, unwrap_or, slice_get, refl, sym, ap, ap₂, ◌∙◌, subst, arith, append_assoc, append-nil, length-append}
-use Rattle.std.specs.Prelude.{option_map, option_and_then, is_some}
+use Rattle.std.proofs.Common.{◌≡◌, ℕ, zero, suc, ◌≤◌, ◌<◌, Bool, true, false, cond, nat_lt, ◌⊎◌, inl, inr, List, [], ◌∷◌, ◌++◌, length, Option, Some, None, unwrap_or, slice_get, refl, sym, ap, ap₂, ◌∙◌, subst, arith, append_assoc, append-nil, length-append}
+use Rattle.std.specs.Prelude.{option_map, is_some}
 use Rattle.std.proofs.lemmas.Option.{none-some}
 use Rattle.std.proofs.lemmas.Bool.{false≢true}
 use Rattle.std.proofs.lemmas.Bool.Decides.{nat_tests}
@@ -20,17 +20,17 @@ use Rattle.flight_syntax.specs.declared.script.Outcome.TheVariants as outcomes_o
 use Rattle.flight_render.specs.declared.root.Ground.{Ground}
 use Rattle.flight_render.specs.declared.root.Root.{Root}
 use Rattle.flight_render.specs.declared.root.Root.TheVariants as root
-use Rattle.flight_render.specs.Run.{Step, gave, threw, waits, Run, End, give, fail, pay, and_then, on_step}
-use Rattle.flight_render.specs.Values.{is_settled, end_if, source_end, outcomes, arguments, tree_of, items_in, property_in, undefined, node_items, node_in}
+use Rattle.flight_render.specs.Run.{Step, gave, threw, waits, Run, End, fail, and_then, on_step}
+use Rattle.flight_render.specs.Values.{is_settled, end_if, outcomes, arguments, tree_of, items_in, property_in, undefined}
 use Rattle.flight_render.specs.Operators.{depth_digest, type_digest}
 use Rattle.flight_render.specs.Eval.{Context, eval}
 use Rattle.flight_render.specs.Body.{Start, started, run_start, params_of, component_start, args_tree, action_start, root_start, body, root_body, fresh, give_last}
 use Rattle.flight_render.specs.Bodies.{inner, element_of, is_finished, finished, made_by, tables_with, next_body, body_below, body_at, node_at, tables_below, tables_at, tables_for, TabledFor}
-use Rattle.flight_render.specs.Jobs.{Job, the_root, element, outcome, known, blank, Value, shown, of_job, failed, stopped, is_server, job_of, comes, value_of, Leads, argument, argument_in}
+use Rattle.flight_render.specs.Jobs.{Job, the_root, element, outcome, known, blank, Value, shown, of_job, failed, stopped, is_server, job_of, comes, value_of, Leads, argument}
 use Rattle.flight_render.specs.Costs.{address_of}
 use Rattle.flight_render.specs.Laws.{Grows, Stays, Met, Own, AllOwn, LeadBack, TablesLeadBack, NamesBack}
-use Rattle.flight_render.proofs.Names.{some-injective, own_more, all_more, back_at, met_snoc, met_last, tables_snoc, tree_of-own, items-own, property-own, StepOwn, Good, eval-good, source-own}
-use Rattle.flight_render.proofs.Larger.{no_body_below, node_body, next-keeps}
+use Rattle.flight_render.proofs.Names.{some-injective, back_at, met_snoc, met_last, tables_snoc, items-own, property-own, StepOwn, Good, eval-good}
+use Rattle.flight_render.proofs.Larger.{no_body_below, next-keeps}
 
 -- ---- one body
 
@@ -81,6 +81,7 @@ params_own g a n ts made h l props own (name ∷ names) = (go (property_in g (ts
     outside (tree.Promise s) k = tt
     outside (tree.Stream s) k = tt
     outside (tree.Action s) k = tt
+
     go : (o : Option Tree) → property_in g (ts ++ made ∷ []) name props ≡ o → Own (a ++ n ∷ []) 0 (unwrap_or o undefined)
     go None e = tt
     go (Some t) e = outside t (property-own g a n ts made h l name props own t e)
@@ -89,7 +90,7 @@ pub good_body : (g : Ground) (s : List Bool) (a : List ℕ) (n : ℕ) (ts : List
 unfolding body
 good_body g s a n ts made h l c props own =
     good_start (record { over = g; settled = s; address = a ++ n ∷ []; tables = ts ++ made ∷ [] }) (tables_snoc [] a ts made n h l) (component_start g (ts ++ made ∷ []) (slice_get g.program.declared c) props)
-      (go (slice_get g.program.declared c))
+    (go (slice_get g.program.declared c))
   where
     go : (o : Option Declared) (x : Start) → component_start g (ts ++ made ∷ []) o props ≡ Some x → AllOwn (a ++ n ∷ []) 0 x.env
     go None x is = absurd (none-some x is)
@@ -110,6 +111,7 @@ good_root g s = good_start (record { over = g; settled = s; address = []; tables
     component (Some (declared.Client name import)) x is = absurd (none-some x is)
     component (Some (declared.Action name params e)) x is = absurd (none-some x is)
     component (Some (declared.Server name params e)) x is = subst (λ z. AllOwn [] 0 z.env) (some-injective _ x is) (no_params g params)
+
     items : (args : Graph) (o : Option (List Tree)) → items_in g [] (args_tree g args) ≡ o → AllOwn [] 0 (unwrap_or o [])
     items args None e = tt
     items args (Some ts) e = from_slot args.root e
@@ -117,11 +119,13 @@ good_root g s = good_start (record { over = g; settled = s; address = []; tables
         from_slot : (x : Slot) → items_in g [] (tree_of (outcomes_of.Value args) (length g.script.sources) x) ≡ Some ts → AllOwn [] 0 ts
         from_slot (slot.Atom a) q = absurd (none-some ts q)
         from_slot (slot.Node n) q = items-own g [] 0 [] [] tt tt (tree.FromSource (length g.script.sources) n) tt ts q
+
     action : (args : Graph) (o : Option Declared) (x : Start) → action_start g o args ≡ Some x → AllOwn [] 0 x.env
     action args None x is = absurd (none-some x is)
     action args (Some (declared.Client name import)) x is = absurd (none-some x is)
     action args (Some (declared.Server name params e)) x is = absurd (none-some x is)
     action args (Some (declared.Action name params e)) x is = subst (λ z. AllOwn [] 0 z.env) (some-injective _ x is) (items args (items_in g [] (args_tree g args)) refl)
+
     go : (r : Root) (x : Start) → root_start g r ≡ Some x → AllOwn [] 0 x.env
     go root.App x is = component _ x is
     go (root.Call number args) x is = action args (slice_get g.program.declared number) x is
@@ -139,6 +143,7 @@ element_props a i (Some m) x h is = go m.kind is
     second [] w c q = absurd (none-some x q)
     second (t ∷ []) w c q = absurd (none-some x q)
     second (t ∷ u ∷ ts) w c q = subst (Own a i) (ap (λ z. z.1) (some-injective (c, u) x q)) w.1.0
+
     go : (k : MadeKind) → element_of (Some (record { kind = k; slots = m.slots })) ≡ Some x → Own a i x.1
     go kind.Array q = absurd (none-some x q)
     go (kind.Object names) q = absurd (none-some x q)
@@ -165,13 +170,14 @@ below_good g s (i ∷ rest) ts at o gt gh b h = go (finished o) refl h
     next : (x : Run Tree) → NamesBack at x → (y : Option (ℕ × Tree)) → ((z : ℕ × Tree) → y ≡ Some z → Own at i z.1) → (c : Run Tree) → next_body g s (ts ++ x.after.made ∷ []) (at ++ i ∷ []) y ≡ Some c → NamesBack (at ++ i ∷ []) c
     next x gx None own c e = absurd (none-some c e)
     next x gx (Some y) own c e = subst (NamesBack (at ++ i ∷ [])) (some-injective _ c e) (good_body g s at i ts x.after.made gt gx.nodes y.0 y.1 (own y refl))
+
     go : (k : Option (Run Tree)) → finished o ≡ k → body_below g s (tables_with ts k) (at ++ i ∷ []) (next_body g s (tables_with ts k) (at ++ i ∷ []) (element_of (made_by k i))) rest ≡ Some b
-       → ((t : List (List Made)) (m : Option (Run Tree)) → TablesLeadBack [] (at ++ i ∷ []) t → ((c : Run Tree) → m ≡ Some c → NamesBack (at ++ i ∷ []) c) → body_below g s t (at ++ i ∷ []) m rest ≡ Some b → NamesBack (at ++ i ∷ rest) b) → NamesBack (at ++ i ∷ rest) b
+        → ((t : List (List Made)) (m : Option (Run Tree)) → TablesLeadBack [] (at ++ i ∷ []) t → ((c : Run Tree) → m ≡ Some c → NamesBack (at ++ i ∷ []) c) → body_below g s t (at ++ i ∷ []) m rest ≡ Some b → NamesBack (at ++ i ∷ rest) b) → NamesBack (at ++ i ∷ rest) b
     go None e w step = absurd (no_body_below g s ts (at ++ i ∷ []) rest b w)
     go (Some x) e w step =
         let gx = gh x (finished-some o x e) in
         step (ts ++ x.after.made ∷ []) (next_body g s (ts ++ x.after.made ∷ []) (at ++ i ∷ []) (element_of (slice_get x.after.made i))) (tables_snoc [] at ts x.after.made i gt gx.nodes)
-          (next x gx (element_of (slice_get x.after.made i)) (λ y q. element_props at i (slice_get x.after.made i) y (λ m r. back_at at x.after.made i m gx.nodes r) q)) w
+        (next x gx (element_of (slice_get x.after.made i)) (λ y q. element_props at i (slice_get x.after.made i) y (λ m r. back_at at x.after.made i m gx.nodes r) q)) w
 
 pub body_at-good : (g : Ground) (s : List Bool) (a : List ℕ) (b : Run Tree) → body_at g s a ≡ Some b → NamesBack a b
 unfolding body_at
@@ -311,6 +317,7 @@ one_step g s k j (gave (tree.Made n)) by is =
     met_long [] b m h = elim h [ ]
     met_long (i ∷ a) [] m h = omega arith
     met_long (i ∷ a) (x ∷ b) m h = let l = met_long a b m h.1 in omega (arith, l)
+
     long : (a : List ℕ) (c : ℕ) → length a < 200 → Own a c (tree.Made n) → length (inner n) ≤ 200
     long a c few (inl h) = let l = length-append n.render (n.serial ∷ []) in let e = ap length h.0 in omega (arith, l, e, few)
     long a c few (inr h) = let l = length-append n.render (n.serial ∷ []) in let e = met_long a n.render n.serial h in omega (arith, l, e, few)
@@ -416,16 +423,16 @@ jobs_end : (g : Ground) (s : List Bool) → StepOf 200 (JobsEnd g s)
 unfolding JobsEnd
 jobs_end g s a few lower k h at by =
     goes_down g s (value_of g s k h) (value_own g s k h)
-      (λ j i is to. let one = one_step g s k j h by is in
-        let same : one.0 ≡ a = some-injective one.0 a (sym one.2 ∙ at) in
-        lower one.1 one.5 (subst (Lower one.1) same one.4) j i one.3 to)
+    (λ j i is to. let one = one_step g s k j h by is in
+    let same : one.0 ≡ a = some-injective one.0 a (sym one.2 ∙ at) in
+    lower one.1 one.5 (subst (Lower one.1) same one.4) j i one.3 to)
 
 pub chain_ends : (g : Ground) (s : List Bool) (v : Value) → IsOwnJob v → ChainEnds g s v
 unfolding JobsEnd
 chain_ends g s v w =
     goes_down g s v w
-      (λ k h is by. goes_down g s (value_of g s k h) (value_own g s k h)
-        (λ j i to from. let one = one_step g s k j h by to in lower_induction 200 (JobsEnd g s) (jobs_end g s) one.1 one.5 j i one.3 from))
+    (λ k h is by. goes_down g s (value_of g s k h) (value_own g s k h)
+    (λ j i to from. let one = one_step g s k j h by to in lower_induction 200 (JobsEnd g s) (jobs_end g s) one.1 one.5 j i one.3 from))
 
 -- ---- each value stands for one slot
 
@@ -445,4 +452,4 @@ unfolding comes
 attempt_gives g few many gr n tables b tabled is stays =
     let now = next-keeps g few many gr tables (inner n) (element_of (node_at g many n)) b is stays in
     ap (option_map (λ x. x.step))
-      (body_with-tables g many n ∙ ap (λ z. next_body g many z (inner n) (element_of (node_at g many n))) (sym tabled.1) ∙ now)
+    (body_with-tables g many n ∙ ap (λ z. next_body g many z (inner n) (element_of (node_at g many n))) (sym tabled.1) ∙ now)

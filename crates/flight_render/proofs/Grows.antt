@@ -4,13 +4,11 @@ use Rattle.std.proofs.lemmas.Bool.{false≢true}
 use Rattle.flight_value.specs.declared.graph.Atom.TheVariants as atom
 use Rattle.flight_value.specs.declared.made.Tree.{Tree}
 use Rattle.flight_value.specs.declared.made.Tree.TheVariants as tree
-use Rattle.flight_value.specs.declared.made.MadeKind.TheVariants as kind
-use Rattle.flight_syntax.specs.declared.expr.Op.{Op}
 use Rattle.flight_syntax.specs.declared.expr.Op.TheVariants as op
 use Rattle.flight_syntax.specs.declared.script.Outcome.{Outcome}
 use Rattle.flight_syntax.specs.Term as term
 use Rattle.flight_syntax.specs.Term.{Term, Terms, Props, Pairs}
-use Rattle.flight_render.specs.Run.{Machine, Step, gave, threw, waits, Run, pay, on_step, and_then, ends, give}
+use Rattle.flight_render.specs.Run.{Machine, Step, gave, threw, waits, Run, pay, on_step, and_then, ends}
 use Rattle.flight_render.specs.Values.{is_settled, end_if, source_named, source_end, outcomes, items_in}
 use Rattle.flight_render.specs.Eval.{Context, Attributes, give_or_fail, known, with_attribute, branch, each, eval, eval_all, eval_props, eval_pairs, eval_attrs}
 use Rattle.flight_render.specs.Operators.{type_digest}
@@ -64,7 +62,7 @@ mutual
       keeps many _ _ _ _ (eval-keeps cx many g test env (pay 1 m)) (λ t n. branch-keeps many t _ _ _ _ (eval-keeps cx many g yes_one env) (eval-keeps cx many g other env) n) w
   eval-keeps cx many g (term.for_in name over give_one) env m w =
       keeps many _ _ _ _ (eval-keeps cx many g over env (pay 1 m)) (λ t n. then-keeps many (give_or_fail type_digest (items_in cx.over (known cx n) t) n) _ _ (λ items k.
-        keeps many _ _ _ _ (each-keeps many (λ item l. eval cx give_one (env ++ item ∷ []) l) (λ item l. eval (with_settled cx many) give_one (env ++ item ∷ []) l) (λ item. eval-keeps cx many g give_one (env ++ item ∷ [])) items [] k) (λ ts l x. refl))) w
+      keeps many _ _ _ _ (each-keeps many (λ item l. eval cx give_one (env ++ item ∷ []) l) (λ item l. eval (with_settled cx many) give_one (env ++ item ∷ []) l) (λ item. eval-keeps cx many g give_one (env ++ item ∷ [])) items [] k) (λ ts l x. refl))) w
   eval-keeps cx many g (term.throw value) env m w = keeps many _ _ _ _ (eval-keeps cx many g value env (pay 1 m)) (λ t n x. refl) w
   eval-keeps cx many g (term.member of name) env m w = keeps many _ _ _ _ (eval-keeps cx many g of env (pay 1 m)) (λ t n x. refl) w
   eval-keeps cx many g (term.index of at_one) env m w = keeps many _ _ _ _ (eval-keeps cx many g of env (pay 1 m)) (λ t n. keeps many _ _ _ _ (eval-keeps cx many g at_one env n) (λ i k x. refl)) w
@@ -90,7 +88,7 @@ mutual
   eval-keeps cx many g (term.binary op.Less left right) env m w = keeps many _ _ _ _ (eval-keeps cx many g left env (pay 1 m)) (λ x n. keeps many _ _ _ _ (eval-keeps cx many g right env n) (λ y k z. refl)) w
   eval-keeps cx many g (term.element t attrs children) env m w =
       keeps many _ _ _ _ (attrs-keeps cx many g attrs env (record { key = tree.Atom atom.Null; props = [] }) (pay 1 m))
-        (λ more n. keeps many _ _ _ _ (all-keeps cx many g children env [] n) (λ inside k x. refl)) w
+      (λ more n. keeps many _ _ _ _ (all-keeps cx many g children env [] n) (λ inside k x. refl)) w
 
   pub all-keeps : (cx : Context) (many : List Bool) → Grows cx.settled many → (ts : Terms) (env so_far : List Tree) (m : Machine) → Stays many (eval_all cx ts env so_far m).step → eval_all (with_settled cx many) ts env so_far m ≡ eval_all cx ts env so_far m
   all-keeps cx many g term.no_terms env so_far m w = refl

@@ -1,11 +1,10 @@
 -- What is rendered with few sources settled is rendered alike with more.
-use Rattle.std.proofs.Common.{◌≡◌, ◌≢◌, ℕ, zero, suc, Bool, true, false, cond, nat_lt, length, ◌⊎◌, inl, inr, List, [], ◌∷◌, ◌++◌, map, Option, Some, None, slice_get, refl, sym, ap, ap₂, ◌∙◌, subst}
+use Rattle.std.proofs.Common.{◌≡◌, ℕ, Bool, true, false, cond, nat_lt, length, inl, inr, List, [], ◌∷◌, ◌++◌, Option, Some, None, slice_get, refl, sym, ap, ap₂, ◌∙◌, subst}
 use Rattle.std.specs.Prelude.{option_map, option_and_then}
 use Rattle.std.proofs.lemmas.Option.{none-some}
 use Rattle.std.proofs.lemmas.Bool.{false≢true}
 use Rattle.flight_value.specs.Store as target
 use Rattle.flight_value.specs.Store.{Target, Shape, Label}
-use Rattle.flight_value.specs.declared.graph.Slot.{Slot}
 use Rattle.flight_value.specs.declared.key.Key.{Key}
 use Rattle.flight_value.specs.declared.key.Key.TheVariants as key
 use Rattle.flight_value.specs.declared.made.Made.{Made}
@@ -14,15 +13,15 @@ use Rattle.flight_value.specs.declared.made.Tree.TheVariants as tree
 use Rattle.flight_value.specs.declared.name.Name.{Name}
 use Rattle.flight_syntax.specs.declared.script.Flowing.{Flowing}
 use Rattle.flight_render.specs.declared.root.Ground.{Ground}
-use Rattle.flight_render.specs.Run.{Step, gave, threw, waits, Run, End, give, fail, pay}
-use Rattle.flight_render.specs.Values.{is_settled, end_if, source_end, outcomes, arguments}
+use Rattle.flight_render.specs.Run.{gave, threw, waits, Run, End, fail}
+use Rattle.flight_render.specs.Values.{is_settled, source_end, outcomes}
 use Rattle.flight_render.specs.Operators.{depth_digest}
 use Rattle.flight_render.specs.Eval.{Context}
-use Rattle.flight_render.specs.Body.{Start, started, run_start, component_start, root_start, body, root_body, fresh, give_last}
+use Rattle.flight_render.specs.Body.{Start, started, run_start, component_start, root_start, body, root_body, fresh}
 use Rattle.flight_render.specs.Bodies.{inner, element_of, Finishes, is_finished, finished, made_by, tables_with, next_body, body_below, body_at, node_at, tables_below, tables_at, tables_for, TabledFor}
-use Rattle.flight_render.specs.Jobs.{Job, the_root, element, outcome, known, blank, Value, shown, of_job, failed, stopped, IsFinal, is_server, job_of, job_body, comes, value_of, Leads, target_of, IsTarget, Stands}
-use Rattle.flight_render.specs.Plain.{Flowed, flow_slots, last_job, flow_last, flow_item, flow, made_shape, flow_shape, shape_at, NodeIs}
-use Rattle.flight_render.specs.Costs.{In, Reached, at_root, through, in_slot, waits_at, flow_stop, Stops, Rendered, address_of}
+use Rattle.flight_render.specs.Jobs.{Job, the_root, element, outcome, known, blank, Value, shown, of_job, failed, stopped, IsFinal, is_server, job_of, comes, value_of, Leads, target_of}
+use Rattle.flight_render.specs.Plain.{flow_slots, last_job, flow_last, flow_item, flow, made_shape, flow_shape, shape_at, NodeIs}
+use Rattle.flight_render.specs.Costs.{In, Reached, at_root, through, in_slot, waits_at, flow_stop, Stops, Rendered}
 use Rattle.flight_render.specs.Laws.{Grows, Stays, IsLasting}
 use Rattle.flight_render.proofs.Grows.{keeps, with_settled, eval-keeps, source-keeps}
 use Rattle.flight_render.proofs.Names.{some-injective}
@@ -82,13 +81,13 @@ below-keeps g few many gr (i ∷ a) tables at (Some x) y k b h w = go (is_finish
         let same : y ≡ Some x = k x refl (finished-stays many x.step e) in
         let is : finished (Some x) ≡ Some x = finished-is x e in
         subst (λ z. body_below g many tables at z (i ∷ a) ≡ Some b) (sym same)
-          (subst (λ z. body_below g many (tables_with tables z) (at ++ i ∷ []) (next_body g many (tables_with tables z) (at ++ i ∷ []) (element_of (made_by z i))) a ≡ Some b) (sym is)
-            (rest (tables_with tables (Some x)) (element_of (made_by (Some x) i))
-              (subst (λ z. body_below g few (tables_with tables z) (at ++ i ∷ []) (next_body g few (tables_with tables z) (at ++ i ∷ []) (element_of (made_by z i))) a ≡ Some b) is h) w))
+        (subst (λ z. body_below g many (tables_with tables z) (at ++ i ∷ []) (next_body g many (tables_with tables z) (at ++ i ∷ []) (element_of (made_by z i))) a ≡ Some b) (sym is)
+        (rest (tables_with tables (Some x)) (element_of (made_by (Some x) i))
+        (subst (λ z. body_below g few (tables_with tables z) (at ++ i ∷ []) (next_body g few (tables_with tables z) (at ++ i ∷ []) (element_of (made_by z i))) a ≡ Some b) is h) w))
     go false e rest =
         let is : finished (Some x) ≡ None = ap (λ z. cond z (Some x) None) e in
         absurd (no_body_below g few (tables_with tables None) (at ++ i ∷ []) a b
-          (subst (λ z. body_below g few (tables_with tables z) (at ++ i ∷ []) (next_body g few (tables_with tables z) (at ++ i ∷ []) (element_of (made_by z i))) a ≡ Some b) is h))
+        (subst (λ z. body_below g few (tables_with tables z) (at ++ i ∷ []) (next_body g few (tables_with tables z) (at ++ i ∷ []) (element_of (made_by z i))) a ≡ Some b) is h))
 
 root-Keeps : (g : Ground) (few many : List Bool) → Grows few many → Keeps many (Some (root_body g few)) (Some (root_body g many))
 root-Keeps g few many gr b is w =
@@ -107,6 +106,7 @@ node_body g s n m h = go (body_at g s n.render) refl h
     finish : (b : Run Tree) → body_at g s n.render ≡ Some b → (c : Bool) → is_finished b.step ≡ c → made_by (cond c (Some b) None) n.serial ≡ Some m → (b : Run Tree) × (body_at g s n.render ≡ Some b) × (is_finished b.step ≡ true) × (slice_get b.after.made n.serial ≡ Some m)
     finish b is true e w = (b, is, e, w)
     finish b is false e w = absurd (none-some m w)
+
     go : (o : Option (Run Tree)) → body_at g s n.render ≡ o → made_by (finished o) n.serial ≡ Some m → (b : Run Tree) × (body_at g s n.render ≡ Some b) × (is_finished b.step ≡ true) × (slice_get b.after.made n.serial ≡ Some m)
     go None is w = absurd (none-some m w)
     go (Some b) is w = finish b is (is_finished b.step) refl w
@@ -127,20 +127,20 @@ below-tables g few many gr (i ∷ a) tables at (Some x) y k b h = go (is_finishe
   where
     go : (c : Bool) → is_finished x.step ≡ c
         → ((t : List (List Made)) (o : Option (ℕ × Tree)) → body_below g few t (at ++ i ∷ []) (next_body g few t (at ++ i ∷ []) o) a ≡ Some b
-            → tables_below g few t (at ++ i ∷ []) (next_body g few t (at ++ i ∷ []) o) a ≡ tables_below g many t (at ++ i ∷ []) (next_body g many t (at ++ i ∷ []) o) a)
+        → tables_below g few t (at ++ i ∷ []) (next_body g few t (at ++ i ∷ []) o) a ≡ tables_below g many t (at ++ i ∷ []) (next_body g many t (at ++ i ∷ []) o) a)
         → tables_below g few tables at (Some x) (i ∷ a) ≡ tables_below g many tables at y (i ∷ a)
     go true e rest =
         let same : y ≡ Some x = k x refl (finished-stays many x.step e) in
         let is : finished (Some x) ≡ Some x = finished-is x e in
         subst (λ z. tables_below g few tables at (Some x) (i ∷ a) ≡ tables_below g many tables at z (i ∷ a)) (sym same)
-          (subst (λ z. tables_below g few (tables_with tables z) (at ++ i ∷ []) (next_body g few (tables_with tables z) (at ++ i ∷ []) (element_of (made_by z i))) a
-                     ≡ tables_below g many (tables_with tables z) (at ++ i ∷ []) (next_body g many (tables_with tables z) (at ++ i ∷ []) (element_of (made_by z i))) a) (sym is)
-            (rest (tables_with tables (Some x)) (element_of (made_by (Some x) i))
-              (subst (λ z. body_below g few (tables_with tables z) (at ++ i ∷ []) (next_body g few (tables_with tables z) (at ++ i ∷ []) (element_of (made_by z i))) a ≡ Some b) is h)))
+        (subst (λ z. tables_below g few (tables_with tables z) (at ++ i ∷ []) (next_body g few (tables_with tables z) (at ++ i ∷ []) (element_of (made_by z i))) a
+        ≡ tables_below g many (tables_with tables z) (at ++ i ∷ []) (next_body g many (tables_with tables z) (at ++ i ∷ []) (element_of (made_by z i))) a) (sym is)
+        (rest (tables_with tables (Some x)) (element_of (made_by (Some x) i))
+        (subst (λ z. body_below g few (tables_with tables z) (at ++ i ∷ []) (next_body g few (tables_with tables z) (at ++ i ∷ []) (element_of (made_by z i))) a ≡ Some b) is h)))
     go false e rest =
         let is : finished (Some x) ≡ None = ap (λ z. cond z (Some x) None) e in
         absurd (no_body_below g few (tables_with tables None) (at ++ i ∷ []) a b
-          (subst (λ z. body_below g few (tables_with tables z) (at ++ i ∷ []) (next_body g few (tables_with tables z) (at ++ i ∷ []) (element_of (made_by z i))) a ≡ Some b) is h))
+        (subst (λ z. body_below g few (tables_with tables z) (at ++ i ∷ []) (next_body g few (tables_with tables z) (at ++ i ∷ []) (element_of (made_by z i))) a ≡ Some b) is h))
 
 tables_at-keeps : (g : Ground) (few many : List Bool) → Grows few many → (a : List ℕ) (b : Run Tree) → body_at g few a ≡ Some b → tables_at g few a ≡ tables_at g many a
 unfolding body_at tables_at
@@ -222,10 +222,14 @@ value-keeps g few many j (waits s) = refl
 
 pub leads-keeps : (g : Ground) (few many : List Bool) → Grows few many → (x : Value) (js : List Job) (f : Value) → Leads g few x js f → IsFinal f → Leads g many x js f
 leads-keeps g few many gr x [] f l w = l
-leads-keeps g few many gr x (j ∷ js) f l w =
-    (job_of-keeps g few many gr x j l.0,
-      (l.1.0, comes-keeps g few many gr j l.1.0 l.1.1 (goes_on g few many j l.1.0 js f l.1.2 w),
-        subst (λ z. Leads g many z js f) (sym (value-keeps g few many j l.1.0)) (leads-keeps g few many gr (value_of g few j l.1.0) js f l.1.2 w)))
+leads-keeps g few many gr x (j ∷ js) f l w = (
+  job_of-keeps g few many gr x j l.0,
+  (
+    l.1.0,
+    comes-keeps g few many gr j l.1.0 l.1.1 (goes_on g few many j l.1.0 js f l.1.2 w),
+    subst (λ z. Leads g many z js f) (sym (value-keeps g few many j l.1.0)) (leads-keeps g few many gr (value_of g few j l.1.0) js f l.1.2 w),
+  ),
+)
 
 pub has_job-final : (g : Ground) (s : List Bool) (x : Value) (j : Job) → job_of g s x ≡ Some j → IsFinal x
 has_job-final g s (of_job k) j h = tt
@@ -340,7 +344,7 @@ pub reached-stays : (g : Ground) (few many : List Bool) → Grows few many → (
 reached-stays g few many gr x at_root w = at_root
 reached-stays g few many gr x (through {v = d} {j = j} {end = h} y is by) w =
     subst (Reached g many) (value-keeps g few many j h)
-      (through (reached-stays g few many gr d y (final-stays many d (has_job-final g few d j is))) (job_of-keeps g few many gr d j is) (comes-keeps g few many gr j h by (value-stays g few many j h w)))
+    (through (reached-stays g few many gr d y (final-stays many d (has_job-final g few d j is))) (job_of-keeps g few many gr d j is) (comes-keeps g few many gr j h by (value-stays g few many j h w)))
 reached-stays g few many gr x (in_slot {v = d} {k = k} {shape = shape} y stops is at among) w =
     let after = slot-keeps g few many gr k shape x at among in
     in_slot (reached-stays g few many gr d y (final-stays many d (node-final d k is))) (job_of-none g few many gr d (there_by-shape g few d k shape is at) stops) is after.1 after.2

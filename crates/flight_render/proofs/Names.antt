@@ -1,10 +1,9 @@
 -- A body meets only nodes of shorter addresses that were made before its element, and those that it makes.
-use Rattle.std.proofs.Common.{◌≡◌, ℕ, zero, suc, ◌+◌, ◌≤◌, ◌<◌, Bool, true, false, cond, pos, negsuc, ◌⊎◌, inl, inr, ⊎_elim, List, [], ◌∷◌, ◌++◌, map, length, Option, Some, None, unwrap_or, slice_get, refl, sym, ap, ◌∙◌, subst, arith, length-append, append_assoc, append-nil}
+use Rattle.std.proofs.Common.{◌≡◌, ℕ, zero, suc, ◌+◌, ◌≤◌, ◌<◌, Bool, true, false, cond, pos, negsuc, inl, inr, ⊎_elim, List, [], ◌∷◌, ◌++◌, map, length, Option, Some, None, unwrap_or, slice_get, refl, sym, ap, ◌∙◌, subst, arith, length-append, append_assoc, append-nil}
 use Rattle.std.specs.Prelude.{bytes_eq, codes, option_and_then}
 use Rattle.std.specs.Ordering.{nat_cmp, is_lt}
 use Rattle.std.specs.Cmp.Lexicographic.{slice_cmp}
 use Rattle.std.proofs.lemmas.Option.{none-some}
-use Rattle.flight_value.specs.Graph.{slots_of}
 use Rattle.flight_value.specs.declared.graph.Atom.{Atom}
 use Rattle.flight_value.specs.declared.graph.Atom.TheVariants as atom
 use Rattle.flight_value.specs.declared.graph.Slot.{Slot}
@@ -18,7 +17,6 @@ use Rattle.flight_value.specs.declared.made.MadeKind.TheVariants as kind
 use Rattle.flight_value.specs.declared.made.Tree.{Tree}
 use Rattle.flight_value.specs.declared.made.Tree.TheVariants as tree
 use Rattle.flight_value.specs.declared.name.Name.{Name}
-use Rattle.flight_syntax.specs.declared.expr.Op.{Op}
 use Rattle.flight_syntax.specs.declared.expr.Op.TheVariants as op
 use Rattle.flight_syntax.specs.declared.expr.Tag.{Tag}
 use Rattle.flight_syntax.specs.declared.expr.Tag.TheVariants as tag
@@ -27,11 +25,11 @@ use Rattle.flight_syntax.specs.declared.script.Outcome.TheVariants as outcome
 use Rattle.flight_syntax.specs.Term as term
 use Rattle.flight_syntax.specs.Term.{Term, Terms, Props, Pairs}
 use Rattle.flight_render.specs.declared.root.Ground.{Ground}
-use Rattle.flight_render.specs.Run.{Machine, Step, gave, threw, waits, Run, pay, on_step, and_then, ends, give, fail, make}
+use Rattle.flight_render.specs.Run.{Machine, Step, gave, threw, waits, Run, pay, on_step, and_then, ends, give, fail}
 use Rattle.flight_render.specs.Values.{tree_of, is_settled, end_if, source_named, stream_named, source_end, outcomes, import_at, made_in, made_items, node_items, node_in, items_in, made_property, node_property, named_slot, property_in, undefined}
 use Rattle.flight_render.specs.Operators.{type_digest, missing_digest, operated, key_of, thrown}
 use Rattle.flight_render.specs.Eval.{Context, Attributes, known, make_here, give_or_fail, give_atom, item_at, branch, each, make_bound, insert_named, by_name, make_object, with_attribute, with_children, tag_tree, make_tagged, make_element, eval, eval_all, eval_props, eval_pairs, eval_attrs}
-use Rattle.flight_render.specs.Laws.{Met, Own, AllOwn, LeadBack, TablesLeadBack, NamesBack}
+use Rattle.flight_render.specs.Laws.{Met, Own, AllOwn, LeadBack, TablesLeadBack}
 
 pub some-injective : {A : Type 0} (a b : A) → Some a ≡ Some b → a ≡ b
 some-injective a b h = ap (λ o. unwrap_or o a) h
@@ -155,6 +153,7 @@ slots_own a k ts made g h n own x is = ⊎_elim (λ w. here w) (λ w. there w (s
     here w =
         let found : slice_get made n.serial ≡ Some x = sym (ap (λ o. option_and_then (λ t. slice_get t n.serial) o) (ap (λ z. slice_get (ts ++ made ∷ []) (length z)) w.0 ∙ own_table [] a ts made g)) ∙ is in
         all_more a n.serial k x.slots (omega (arith, w.1)) (back_at a made n.serial x h found)
+
     there : Met a n.render n.serial → (o : Option (List Made)) → slice_get (ts ++ made ∷ []) (length n.render) ≡ o → option_and_then (λ t. slice_get t n.serial) o ≡ Some x → AllOwn a k x.slots
     there w None e f = absurd (none-some x f)
     there w (Some t) e f = met_slots a k n x.slots w (back_at n.render t n.serial x (met_table [] a n.render n.render n.serial ts made t refl g w e) f)
@@ -226,7 +225,7 @@ items-own g a k ts made h l (tree.Made n) own items is =
     read_own (AllOwn a k) made_items (made_in (ts ++ made ∷ []) n) (λ x e ys f. made_items-own a k x (slots_own a k ts made h l n own x e) ys f) items is
 items-own g a k ts made h l (tree.FromSource s n) own items is =
     read_own (AllOwn a k) (λ o. option_and_then (node_items o s) (node_in o n)) (slice_get (outcomes g) s)
-      (λ o e ys f. read_own (AllOwn a k) (node_items o s) (node_in o n) (λ x q zs r. node_items-own a k o s x zs r) ys f) items is
+    (λ o e ys f. read_own (AllOwn a k) (node_items o s) (node_in o n) (λ x q zs r. node_items-own a k o s x zs r) ys f) items is
 items-own g a k ts made h l (tree.Atom x) own items is = absurd (none-some items is)
 items-own g a k ts made h l (tree.Promise x) own items is = absurd (none-some items is)
 items-own g a k ts made h l (tree.Stream x) own items is = absurd (none-some items is)
@@ -237,7 +236,7 @@ property-own g a k ts made h l name (tree.Made n) own u is =
     read_own (Own a k) (made_property name) (made_in (ts ++ made ∷ []) n) (λ x e y f. made_property-own a k name x (slots_own a k ts made h l n own x e) y f) u is
 property-own g a k ts made h l name (tree.FromSource s n) own u is =
     read_own (Own a k) (λ o. option_and_then (node_property o s name) (node_in o n)) (slice_get (outcomes g) s)
-      (λ o e y f. read_own (Own a k) (node_property o s name) (node_in o n) (λ x q z r. node_property-own a k o s name x z r) y f) u is
+    (λ o e y f. read_own (Own a k) (node_property o s name) (node_in o n) (λ x q z r. node_property-own a k o s name x z r) y f) u is
 property-own g a k ts made h l name (tree.Atom x) own u is = absurd (none-some u is)
 property-own g a k ts made h l name (tree.Promise x) own u is = absurd (none-some u is)
 property-own g a k ts made h l name (tree.Stream x) own u is = absurd (none-some u is)
@@ -303,8 +302,8 @@ good_each : (a : List ℕ) (run : Tree → Machine → Run Tree) (low : ℕ)
 good_each a run low one [] so_far m g le h k = record { nodes = g; grows = omega arith; own = k }
 good_each a run low one (item ∷ items) so_far m g le h k =
     good_then a (Own a) (AllOwn a) (length m.made) (run item m) (λ result n. each run items (so_far ++ result ∷ []) n) (one item m g le h.0)
-      (λ t n gn up own. good_each a run low one items (so_far ++ t ∷ []) n gn (omega (arith, le, up)) (all_more a (length m.made) (length n.made) items up h.1)
-        (all_append a (length n.made) so_far (t ∷ []) (all_more a (length m.made) (length n.made) so_far up k) (own, tt)))
+    (λ t n gn up own. good_each a run low one items (so_far ++ t ∷ []) n gn (omega (arith, le, up)) (all_more a (length m.made) (length n.made) items up h.1)
+    (all_append a (length n.made) so_far (t ∷ []) (all_more a (length m.made) (length n.made) so_far up k) (own, tt)))
 
 -- ---- objects and elements
 
@@ -343,6 +342,7 @@ good_attribute a x name t m g h w = go (bytes_eq name (codes "key"))
     keyed (gave k) = record { nodes = g; grows = omega arith; own = (tt, h.1) }
     keyed (threw d) = record { nodes = g; grows = omega arith; own = tt }
     keyed (waits s) = record { nodes = g; grows = omega arith; own = tt }
+
     go : (b : Bool) → Good a (AttributesOwn a) (length m.made) (cond b (on_step (key_of t) (λ key n. give (record { key = tree.Atom key; props = x.props }) n) m) (give (record { key = x.key; props = x.props ++ (name, t) ∷ [] }) m))
     go true = keyed (key_of t)
     go false = record { nodes = g; grows = omega arith; own = (h.0, props_append a (length m.made) x.props (name, t) h.1 w) }
@@ -352,9 +352,12 @@ good_children cx x [] m g h w = record { nodes = g; grows = omega arith; own = h
 good_children cx x (t ∷ []) m g h w = record { nodes = g; grows = omega arith; own = (h.0, props_append cx.address (length m.made) x.props (codes "children", t) h.1 w.0) }
 good_children cx x (t ∷ u ∷ ts) m g h w =
     good_then cx.address (Own cx.address) (AttributesOwn cx.address) (length m.made) (make_here cx kind.Array (t ∷ u ∷ ts) m) (λ array n. give (record { key = x.key; props = x.props ++ (codes "children", array) ∷ [] }) n)
-      (good_make cx kind.Array (t ∷ u ∷ ts) m g w)
-      (λ array n gn up own. record { nodes = gn; grows = omega arith;
-        own = (own_more cx.address (length m.made) (length n.made) x.key up h.0, props_append cx.address (length n.made) x.props (codes "children", array) (props_more cx.address (length m.made) (length n.made) x.props up h.1) own) })
+    (good_make cx kind.Array (t ∷ u ∷ ts) m g w)
+    (λ array n gn up own. record {
+      nodes = gn;
+      grows = omega arith;
+      own = (own_more cx.address (length m.made) (length n.made) x.key up h.0, props_append cx.address (length n.made) x.props (codes "children", array) (props_more cx.address (length m.made) (length n.made) x.props up h.1) own);
+    })
 
 good_tagged : (cx : Context) (t : Tag) (key props : Tree) (m : Machine) → LeadBack cx.address 0 m.made → Own cx.address (length m.made) key → Own cx.address (length m.made) props → Good cx.address (Own cx.address) (length m.made) (make_tagged cx t key props m)
 good_tagged cx (tag.Server c) key props m g h w = good_make cx (kind.Server c) (key ∷ props ∷ []) m g (h, (w, tt))
@@ -365,15 +368,15 @@ good_tagged cx tag.Suspense key props m g h w = good_make cx kind.Element (tag_t
 good_element : (cx : Context) (t : Tag) (x : Attributes) (m : Machine) → LeadBack cx.address 0 m.made → AttributesOwn cx.address (length m.made) x → Good cx.address (Own cx.address) (length m.made) (make_element cx t x m)
 good_element cx t x m g h =
     good_then cx.address (Own cx.address) (Own cx.address) (length m.made) (make_object cx x.props m) (λ props n. make_tagged cx t x.key props n) (good_object cx x.props m g h.1)
-      (λ props n gn up own. good_tagged cx t x.key props n gn (own_more cx.address (length m.made) (length n.made) x.key up h.0) own)
+    (λ props n gn up own. good_tagged cx t x.key props n gn (own_more cx.address (length m.made) (length n.made) x.key up h.0) own)
 
 good_bound : (cx : Context) (action : ℕ) (ts : List Tree) (m : Machine) → LeadBack cx.address 0 m.made → AllOwn cx.address (length m.made) ts → Good cx.address (Own cx.address) (length m.made) (make_bound cx action ts m)
 good_bound cx action ts m g h =
     good_then cx.address (Own cx.address) (Own cx.address) (length m.made) (make_here cx kind.Array ts m)
-      (λ array n. and_then (make_here cx kind.Promise (array ∷ []) n) (λ promise k. make_here cx (kind.Bound action) (promise ∷ []) k)) (good_make cx kind.Array ts m g h)
-      (λ array n gn up own. good_then cx.address (Own cx.address) (Own cx.address) (length n.made) (make_here cx kind.Promise (array ∷ []) n) (λ promise k. make_here cx (kind.Bound action) (promise ∷ []) k)
-        (good_make cx kind.Promise (array ∷ []) n gn (own, tt))
-        (λ promise k gk uk ok. good_make cx (kind.Bound action) (promise ∷ []) k gk (ok, tt)))
+    (λ array n. and_then (make_here cx kind.Promise (array ∷ []) n) (λ promise k. make_here cx (kind.Bound action) (promise ∷ []) k)) (good_make cx kind.Array ts m g h)
+    (λ array n gn up own. good_then cx.address (Own cx.address) (Own cx.address) (length n.made) (make_here cx kind.Promise (array ∷ []) n) (λ promise k. make_here cx (kind.Bound action) (promise ∷ []) k)
+    (good_make cx kind.Promise (array ∷ []) n gn (own, tt))
+    (λ promise k gk uk ok. good_make cx (kind.Bound action) (promise ∷ []) k gk (ok, tt)))
 
 -- ---- expressions
 
@@ -384,38 +387,38 @@ module _ (cx : Context) (tables : TablesLeadBack [] cx.address cx.tables) where
   good_index : (t i : Tree) (m : Machine) → LeadBack cx.address 0 m.made → Own cx.address (length m.made) t → Good cx.address (Own cx.address) (length m.made) (item_at cx t i m)
   good_index t (tree.Atom (atom.Whole (pos n))) m g h =
       good_then cx.address (AllOwn cx.address) (Own cx.address) (length m.made) (give_or_fail type_digest (items_in cx.over (known cx m) t) m) (λ items k. give_or_fail missing_digest (slice_get items n) k) (good_items t m g h)
-        (λ items k gk up own. good_option cx.address (Own cx.address) missing_digest (slice_get items n) k gk (λ x is. all_item cx.address (length k.made) items n x own is))
+      (λ items k gk up own. good_option cx.address (Own cx.address) missing_digest (slice_get items n) k gk (λ x is. all_item cx.address (length k.made) items n x own is))
   good_index t (tree.Atom (atom.Whole (negsuc n))) m g h =
       good_then cx.address (AllOwn cx.address) (Own cx.address) (length m.made) (give_or_fail type_digest (items_in cx.over (known cx m) t) m) (λ items k. fail missing_digest k) (good_items t m g h)
-        (λ items k gk up own. record { nodes = gk; grows = omega arith; own = tt })
+      (λ items k gk up own. record { nodes = gk; grows = omega arith; own = tt })
   good_index t _ m g h = record { nodes = g; grows = omega arith; own = tt }
 
   mutual
     pub eval-good : (t : Term) (env : List Tree) (m : Machine) → LeadBack cx.address 0 m.made → AllOwn cx.address (length m.made) env → Good cx.address (Own cx.address) (length m.made) (eval cx t env m)
     eval-good (term.let_in name value rest) env m g h =
         good_then _ _ _ _ _ _ (eval-good value env (pay 1 m) g h)
-          (λ t n gn up own. eval-good rest (env ++ t ∷ []) n gn (all_append cx.address (length n.made) env (t ∷ []) (all_more cx.address (length m.made) (length n.made) env up h) (own, tt)))
+        (λ t n gn up own. eval-good rest (env ++ t ∷ []) n gn (all_append cx.address (length n.made) env (t ∷ []) (all_more cx.address (length m.made) (length n.made) env up h) (own, tt)))
     eval-good (term.if_else test yes_one other) env m g h =
         good_then _ _ _ _ _ _ (eval-good test env (pay 1 m) g h)
-          (λ t n gn up own. good_branch cx.address (Own cx.address) t (eval cx yes_one env) (eval cx other env) n gn
-            (eval-good yes_one env n gn (all_more cx.address (length m.made) (length n.made) env up h)) (eval-good other env n gn (all_more cx.address (length m.made) (length n.made) env up h)))
+        (λ t n gn up own. good_branch cx.address (Own cx.address) t (eval cx yes_one env) (eval cx other env) n gn
+        (eval-good yes_one env n gn (all_more cx.address (length m.made) (length n.made) env up h)) (eval-good other env n gn (all_more cx.address (length m.made) (length n.made) env up h)))
     eval-good (term.for_in name over give_one) env m g h =
         good_then _ _ _ _ _ _ (eval-good over env (pay 1 m) g h)
-          (λ t n gn up own. good_then _ _ _ _ _ _ (good_items t n gn own)
-            (λ items k gk uk ok. good_then _ _ _ _ _ _
-              (good_each cx.address (λ item l. eval cx give_one (env ++ item ∷ []) l) (length k.made)
-                (λ item l gl le oi. eval-good give_one (env ++ item ∷ []) l gl
-                  (all_append cx.address (length l.made) env (item ∷ []) (all_more cx.address (length m.made) (length l.made) env (omega (arith, up, uk, le)) h) (oi, tt)))
-                items [] k gk (omega arith) ok tt)
-              (λ ts l gl ul ol. good_make cx kind.Array ts l gl ol)))
+        (λ t n gn up own. good_then _ _ _ _ _ _ (good_items t n gn own)
+        (λ items k gk uk ok. good_then _ _ _ _ _ _
+        (good_each cx.address (λ item l. eval cx give_one (env ++ item ∷ []) l) (length k.made)
+        (λ item l gl le oi. eval-good give_one (env ++ item ∷ []) l gl
+        (all_append cx.address (length l.made) env (item ∷ []) (all_more cx.address (length m.made) (length l.made) env (omega (arith, up, uk, le)) h) (oi, tt)))
+        items [] k gk (omega arith) ok tt)
+        (λ ts l gl ul ol. good_make cx kind.Array ts l gl ol)))
     eval-good (term.throw value) env m g h = good_then _ _ _ _ _ _ (eval-good value env (pay 1 m) g h) (λ t n gn up own. good_end cx.address (Own cx.address) (threw (thrown t)) n gn tt)
     eval-good (term.member of name) env m g h =
         good_then _ _ _ _ _ _ (eval-good of env (pay 1 m) g h)
-          (λ t n gn up own. good_option cx.address (Own cx.address) type_digest (property_in cx.over (known cx n) name t) n gn (λ x is. property-own cx.over cx.address (length n.made) cx.tables n.made tables gn name t own x is))
+        (λ t n gn up own. good_option cx.address (Own cx.address) type_digest (property_in cx.over (known cx n) name t) n gn (λ x is. property-own cx.over cx.address (length n.made) cx.tables n.made tables gn name t own x is))
     eval-good (term.index of at_one) env m g h =
         good_then _ _ _ _ _ _ (eval-good of env (pay 1 m) g h)
-          (λ t n gn up own. good_then _ _ _ _ _ _ (eval-good at_one env n gn (all_more cx.address (length m.made) (length n.made) env up h))
-            (λ i k gk uk ok. good_index t i k gk (own_more cx.address (length n.made) (length k.made) t uk own)))
+        (λ t n gn up own. good_then _ _ _ _ _ _ (eval-good at_one env n gn (all_more cx.address (length m.made) (length n.made) env up h))
+        (λ i k gk uk ok. good_index t i k gk (own_more cx.address (length n.made) (length k.made) t uk own)))
     eval-good (term.atom a) env m g h = good_end cx.address (Own cx.address) (gave (tree.Atom a)) (pay 1 m) g tt
     eval-good (term.variable number) env m g h = good_end cx.address (Own cx.address) (gave (unwrap_or (slice_get env number) undefined)) (pay 1 m) g (all_get cx.address (length m.made) env number h)
     eval-good (term.client number) env m g h = good_end cx.address (Own cx.address) (gave (tree.Atom (atom.Import (import_at cx.over number)))) (pay 1 m) g tt
@@ -425,23 +428,23 @@ module _ (cx : Context) (tables : TablesLeadBack [] cx.address cx.tables) where
     eval-good (term.set items) env m g h = good_then _ _ _ _ _ _ (all-good items env [] (pay 1 m) g h tt) (λ ts n gn up own. good_make cx kind.Set ts n gn own)
     eval-good (term.source name) env m g h =
         good_then cx.address (λ k s. Unit {0}) (Own cx.address) (length m.made) (give_or_fail type_digest (source_named cx.over name) (pay 1 m)) (λ s n. ends (source_end cx.over cx.settled s) n)
-          (good_option cx.address (λ k s. Unit {0}) type_digest (source_named cx.over name) (pay 1 m) g (λ x is. tt))
-          (λ s n gn up own. good_end cx.address (Own cx.address) (source_end cx.over cx.settled s) n gn (source-own cx.address (length n.made) (is_settled cx.settled s) s (slice_get (outcomes cx.over) s)))
+        (good_option cx.address (λ k s. Unit {0}) type_digest (source_named cx.over name) (pay 1 m) g (λ x is. tt))
+        (λ s n gn up own. good_end cx.address (Own cx.address) (source_end cx.over cx.settled s) n gn (source-own cx.address (length n.made) (is_settled cx.settled s) s (slice_get (outcomes cx.over) s)))
     eval-good (term.promise name) env m g h =
         good_then cx.address (λ k s. Unit {0}) (Own cx.address) (length m.made) (give_or_fail type_digest (source_named cx.over name) (pay 1 m)) (λ s n. give (tree.Promise s) n)
-          (good_option cx.address (λ k s. Unit {0}) type_digest (source_named cx.over name) (pay 1 m) g (λ x is. tt)) (λ s n gn up own. good_end cx.address (Own cx.address) (gave (tree.Promise s)) n gn tt)
+        (good_option cx.address (λ k s. Unit {0}) type_digest (source_named cx.over name) (pay 1 m) g (λ x is. tt)) (λ s n gn up own. good_end cx.address (Own cx.address) (gave (tree.Promise s)) n gn tt)
     eval-good (term.stream name) env m g h =
         good_then cx.address (λ k s. Unit {0}) (Own cx.address) (length m.made) (give_or_fail type_digest (stream_named cx.over name) (pay 1 m)) (λ s n. give (tree.Stream s) n)
-          (good_option cx.address (λ k s. Unit {0}) type_digest (stream_named cx.over name) (pay 1 m) g (λ x is. tt)) (λ s n gn up own. good_end cx.address (Own cx.address) (gave (tree.Stream s)) n gn tt)
+        (good_option cx.address (λ k s. Unit {0}) type_digest (stream_named cx.over name) (pay 1 m) g (λ x is. tt)) (λ s n gn up own. good_end cx.address (Own cx.address) (gave (tree.Stream s)) n gn tt)
     eval-good (term.action number) env m g h = good_end cx.address (Own cx.address) (gave (tree.Action number)) (pay 1 m) g tt
     eval-good (term.action_with number bound) env m g h = good_then _ _ _ _ _ _ (all-good bound env [] (pay 1 m) g h tt) (λ ts n gn up own. good_bound cx number ts n gn own)
     eval-good (term.paren inside) env m g h = eval-good inside env m g h
     eval-good (term.binary op.And left right) env m g h =
         good_then _ _ _ _ _ _ (eval-good left env (pay 1 m) g h)
-          (λ t n gn up own. good_branch cx.address (Own cx.address) t (eval cx right env) (give t) n gn (eval-good right env n gn (all_more cx.address (length m.made) (length n.made) env up h)) (good_end cx.address (Own cx.address) (gave t) n gn own))
+        (λ t n gn up own. good_branch cx.address (Own cx.address) t (eval cx right env) (give t) n gn (eval-good right env n gn (all_more cx.address (length m.made) (length n.made) env up h)) (good_end cx.address (Own cx.address) (gave t) n gn own))
     eval-good (term.binary op.Or left right) env m g h =
         good_then _ _ _ _ _ _ (eval-good left env (pay 1 m) g h)
-          (λ t n gn up own. good_branch cx.address (Own cx.address) t (give t) (eval cx right env) n gn (good_end cx.address (Own cx.address) (gave t) n gn own) (eval-good right env n gn (all_more cx.address (length m.made) (length n.made) env up h)))
+        (λ t n gn up own. good_branch cx.address (Own cx.address) t (give t) (eval cx right env) n gn (good_end cx.address (Own cx.address) (gave t) n gn own) (eval-good right env n gn (all_more cx.address (length m.made) (length n.made) env up h)))
     eval-good (term.binary op.Plus left right) env m g h =
         good_then _ _ _ _ _ _ (eval-good left env (pay 1 m) g h) (λ x n gn up own. good_then _ _ _ _ _ _ (eval-good right env n gn (all_more cx.address (length m.made) (length n.made) env up h)) (λ y k gk uk ok. good_atom cx.address (operated op.Plus x y) k gk))
     eval-good (term.binary op.Minus left right) env m g h =
@@ -454,38 +457,38 @@ module _ (cx : Context) (tables : TablesLeadBack [] cx.address cx.tables) where
         good_then _ _ _ _ _ _ (eval-good left env (pay 1 m) g h) (λ x n gn up own. good_then _ _ _ _ _ _ (eval-good right env n gn (all_more cx.address (length m.made) (length n.made) env up h)) (λ y k gk uk ok. good_atom cx.address (operated op.Less x y) k gk))
     eval-good (term.element t attrs children) env m g h =
         good_then _ _ _ _ _ _ (attrs-good attrs env (record { key = tree.Atom atom.Null; props = [] }) (pay 1 m) g h (tt, tt))
-          (λ more n gn up own. good_then _ _ _ _ _ _ (all-good children env [] n gn (all_more cx.address (length m.made) (length n.made) env up h) tt)
-            (λ inside k gk uk ok. good_then _ _ _ _ _ _
-              (good_children cx more inside k gk (own_more cx.address (length n.made) (length k.made) more.key uk own.0, props_more cx.address (length n.made) (length k.made) more.props uk own.1) ok)
-              (λ x l gl ul ol. good_element cx t x l gl ol)))
+        (λ more n gn up own. good_then _ _ _ _ _ _ (all-good children env [] n gn (all_more cx.address (length m.made) (length n.made) env up h) tt)
+        (λ inside k gk uk ok. good_then _ _ _ _ _ _
+        (good_children cx more inside k gk (own_more cx.address (length n.made) (length k.made) more.key uk own.0, props_more cx.address (length n.made) (length k.made) more.props uk own.1) ok)
+        (λ x l gl ul ol. good_element cx t x l gl ol)))
 
     pub all-good : (ts : Terms) (env so_far : List Tree) (m : Machine) → LeadBack cx.address 0 m.made → AllOwn cx.address (length m.made) env → AllOwn cx.address (length m.made) so_far → Good cx.address (AllOwn cx.address) (length m.made) (eval_all cx ts env so_far m)
     all-good term.no_terms env so_far m g h k = good_end cx.address (AllOwn cx.address) (gave so_far) m g k
     all-good (term.term_and t rest) env so_far m g h k =
         good_then _ _ _ _ _ _ (eval-good t env m g h)
-          (λ v n gn up own. all-good rest env (so_far ++ v ∷ []) n gn (all_more cx.address (length m.made) (length n.made) env up h)
-            (all_append cx.address (length n.made) so_far (v ∷ []) (all_more cx.address (length m.made) (length n.made) so_far up k) (own, tt)))
+        (λ v n gn up own. all-good rest env (so_far ++ v ∷ []) n gn (all_more cx.address (length m.made) (length n.made) env up h)
+        (all_append cx.address (length n.made) so_far (v ∷ []) (all_more cx.address (length m.made) (length n.made) so_far up k) (own, tt)))
 
     pub props-good : (ts : Props) (env : List Tree) (so_far : List (List ℕ × Tree)) (m : Machine) → LeadBack cx.address 0 m.made → AllOwn cx.address (length m.made) env → PropsOwn cx.address (length m.made) so_far → Good cx.address (PropsOwn cx.address) (length m.made) (eval_props cx ts env so_far m)
     props-good term.no_props env so_far m g h k = good_end cx.address (PropsOwn cx.address) (gave so_far) m g k
     props-good (term.prop_and name t rest) env so_far m g h k =
         good_then _ _ _ _ _ _ (eval-good t env m g h)
-          (λ v n gn up own. props-good rest env (so_far ++ (name, v) ∷ []) n gn (all_more cx.address (length m.made) (length n.made) env up h)
-            (props_append cx.address (length n.made) so_far (name, v) (props_more cx.address (length m.made) (length n.made) so_far up k) own))
+        (λ v n gn up own. props-good rest env (so_far ++ (name, v) ∷ []) n gn (all_more cx.address (length m.made) (length n.made) env up h)
+        (props_append cx.address (length n.made) so_far (name, v) (props_more cx.address (length m.made) (length n.made) so_far up k) own))
 
     pub pairs-good : (ts : Pairs) (env so_far : List Tree) (m : Machine) → LeadBack cx.address 0 m.made → AllOwn cx.address (length m.made) env → AllOwn cx.address (length m.made) so_far → Good cx.address (AllOwn cx.address) (length m.made) (eval_pairs cx ts env so_far m)
     pairs-good term.no_pairs env so_far m g h k = good_end cx.address (AllOwn cx.address) (gave so_far) m g k
     pairs-good (term.pair_and key value rest) env so_far m g h k =
         good_then _ _ _ _ _ _ (eval-good key env m g h)
-          (λ x n gn up own. good_then _ _ _ _ _ _ (eval-good value env n gn (all_more cx.address (length m.made) (length n.made) env up h))
-            (λ v l gl ul ol. pairs-good rest env (so_far ++ x ∷ v ∷ []) l gl (all_more cx.address (length m.made) (length l.made) env (omega (arith, up, ul)) h)
-              (all_append cx.address (length l.made) so_far (x ∷ v ∷ []) (all_more cx.address (length m.made) (length l.made) so_far (omega (arith, up, ul)) k)
-                (own_more cx.address (length n.made) (length l.made) x ul own, (ol, tt)))))
+        (λ x n gn up own. good_then _ _ _ _ _ _ (eval-good value env n gn (all_more cx.address (length m.made) (length n.made) env up h))
+        (λ v l gl ul ol. pairs-good rest env (so_far ++ x ∷ v ∷ []) l gl (all_more cx.address (length m.made) (length l.made) env (omega (arith, up, ul)) h)
+        (all_append cx.address (length l.made) so_far (x ∷ v ∷ []) (all_more cx.address (length m.made) (length l.made) so_far (omega (arith, up, ul)) k)
+        (own_more cx.address (length n.made) (length l.made) x ul own, (ol, tt)))))
 
     pub attrs-good : (ts : Props) (env : List Tree) (so_far : Attributes) (m : Machine) → LeadBack cx.address 0 m.made → AllOwn cx.address (length m.made) env → AttributesOwn cx.address (length m.made) so_far → Good cx.address (AttributesOwn cx.address) (length m.made) (eval_attrs cx ts env so_far m)
     attrs-good term.no_props env so_far m g h k = good_end cx.address (AttributesOwn cx.address) (gave so_far) m g k
     attrs-good (term.prop_and name t rest) env so_far m g h k =
         good_then _ _ _ _ _ _ (eval-good t env m g h)
-          (λ v n gn up own. good_then cx.address (AttributesOwn cx.address) (AttributesOwn cx.address) (length n.made) (with_attribute so_far name v n) (λ more l. eval_attrs cx rest env more l)
-            (good_attribute cx.address so_far name v n gn (own_more cx.address (length m.made) (length n.made) so_far.key up k.0, props_more cx.address (length m.made) (length n.made) so_far.props up k.1) own)
-            (λ more l gl ul ol. attrs-good rest env more l gl (all_more cx.address (length m.made) (length l.made) env (omega (arith, up, ul)) h) ol))
+        (λ v n gn up own. good_then cx.address (AttributesOwn cx.address) (AttributesOwn cx.address) (length n.made) (with_attribute so_far name v n) (λ more l. eval_attrs cx rest env more l)
+        (good_attribute cx.address so_far name v n gn (own_more cx.address (length m.made) (length n.made) so_far.key up k.0, props_more cx.address (length m.made) (length n.made) so_far.props up k.1) own)
+        (λ more l gl ul ol. attrs-good rest env more l gl (all_more cx.address (length m.made) (length l.made) env (omega (arith, up, ul)) h) ol))

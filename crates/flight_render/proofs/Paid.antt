@@ -1,5 +1,5 @@
 -- Evaluation never lowers the cost.
-use Rattle.std.proofs.Common.{◌≡◌, ℕ, ◌+◌, ◌≤◌, Bool, true, false, cond, pos, negsuc, List, [], ◌∷◌, ◌++◌, map, Option, Some, None, unwrap_or, slice_get, arith}
+use Rattle.std.proofs.Common.{ℕ, ◌+◌, ◌≤◌, Bool, true, false, cond, pos, negsuc, List, [], ◌∷◌, ◌++◌, Option, Some, None, slice_get, arith}
 use Rattle.std.specs.Prelude.{bytes_eq, codes}
 use Rattle.flight_value.specs.declared.graph.Atom.{Atom}
 use Rattle.flight_value.specs.declared.graph.Atom.TheVariants as atom
@@ -7,7 +7,6 @@ use Rattle.flight_value.specs.declared.made.MadeKind.{MadeKind}
 use Rattle.flight_value.specs.declared.made.MadeKind.TheVariants as kind
 use Rattle.flight_value.specs.declared.made.Tree.{Tree}
 use Rattle.flight_value.specs.declared.made.Tree.TheVariants as tree
-use Rattle.flight_syntax.specs.declared.expr.Op.{Op}
 use Rattle.flight_syntax.specs.declared.expr.Op.TheVariants as op
 use Rattle.flight_syntax.specs.declared.expr.Tag.{Tag}
 use Rattle.flight_syntax.specs.declared.expr.Tag.TheVariants as tag
@@ -17,7 +16,6 @@ use Rattle.flight_render.specs.Run.{Machine, Step, gave, threw, waits, Run, pay,
 use Rattle.flight_render.specs.Values.{source_named, stream_named, source_end, items_in, property_in}
 use Rattle.flight_render.specs.Operators.{type_digest, missing_digest, operated, key_of, thrown}
 use Rattle.flight_render.specs.Eval.{Context, Attributes, known, make_here, give_or_fail, give_atom, item_at, branch, each, make_bound, make_object, with_attribute, with_children, make_tagged, make_element, eval, eval_all, eval_props, eval_pairs, eval_attrs}
-use Rattle.flight_render.specs.Body.{Start, started, fresh, give_last}
 
 -- the cost after a run is no less than so much
 pub record Paid {A : Type 0} (cost : ℕ) (r : Run A) : Type 0 where
@@ -70,7 +68,7 @@ paid_each run one (item ∷ items) so_far m = paid-then m.cost (run item m) (λ 
 paid_bound : (cx : Context) (action : ℕ) (ts : List Tree) (m : Machine) → Paid m.cost (make_bound cx action ts m)
 paid_bound cx action ts m =
     paid-then m.cost (make_here cx kind.Array ts m) (λ array n. and_then (make_here cx kind.Promise (array ∷ []) n) (λ promise k. make_here cx (kind.Bound action) (promise ∷ []) k)) (paid_make cx kind.Array ts m)
-      (λ array n. paid-then n.cost (make_here cx kind.Promise (array ∷ []) n) (λ promise k. make_here cx (kind.Bound action) (promise ∷ []) k) (paid_make cx kind.Promise (array ∷ []) n) (λ promise k. paid_make cx (kind.Bound action) (promise ∷ []) k))
+    (λ array n. paid-then n.cost (make_here cx kind.Promise (array ∷ []) n) (λ promise k. make_here cx (kind.Bound action) (promise ∷ []) k) (paid_make cx kind.Promise (array ∷ []) n) (λ promise k. paid_make cx (kind.Bound action) (promise ∷ []) k))
 
 paid_attribute : (x : Attributes) (name : List ℕ) (t : Tree) (m : Machine) → Paid m.cost (with_attribute x name t m)
 paid_attribute x name t m = go (bytes_eq name (codes "key"))
@@ -79,6 +77,7 @@ paid_attribute x name t m = go (bytes_eq name (codes "key"))
     keyed (gave k) = record { least = omega arith }
     keyed (threw d) = record { least = omega arith }
     keyed (waits s) = record { least = omega arith }
+
     go : (b : Bool) → Paid {A = Attributes} m.cost (cond b (on_step (key_of t) (λ key n. give (record { key = tree.Atom key; props = x.props }) n) m) (give (record { key = x.key; props = x.props ++ (name, t) ∷ [] }) m))
     go true = keyed (key_of t)
     go false = record { least = omega arith }
@@ -106,7 +105,7 @@ module _ (cx : Context) where
         paid-more m 1 _ (paid-then _ _ _ (eval-paid test env (pay 1 m)) (λ t n. paid_branch t (eval cx yes_one env) (eval cx other env) n (eval-paid yes_one env n) (eval-paid other env n)))
     eval-paid (term.for_in name over give_one) env m =
         paid-more m 1 _ (paid-then _ _ _ (eval-paid over env (pay 1 m)) (λ t n. paid-then n.cost (give_or_fail type_digest (items_in cx.over (known cx n) t) n) _ (paid_option _ _ n)
-          (λ items k. paid-then k.cost (each (λ item l. eval cx give_one (env ++ item ∷ []) l) items [] k) _ (paid_each (λ item l. eval cx give_one (env ++ item ∷ []) l) (λ item l. eval-paid give_one (env ++ item ∷ []) l) items [] k) (λ ts l. paid_make cx kind.Array ts l))))
+        (λ items k. paid-then k.cost (each (λ item l. eval cx give_one (env ++ item ∷ []) l) items [] k) _ (paid_each (λ item l. eval cx give_one (env ++ item ∷ []) l) (λ item l. eval-paid give_one (env ++ item ∷ []) l) items [] k) (λ ts l. paid_make cx kind.Array ts l))))
     eval-paid (term.throw value) env m = paid-more m 1 _ (paid-then _ _ _ (eval-paid value env (pay 1 m)) (λ t n. paid_fail (thrown t) n))
     eval-paid (term.member of name) env m = paid-more m 1 _ (paid-then _ _ _ (eval-paid of env (pay 1 m)) (λ t n. paid_option type_digest (property_in cx.over (known cx n) name t) n))
     eval-paid (term.index of at_one) env m = paid-more m 1 _ (paid-then _ _ _ (eval-paid of env (pay 1 m)) (λ t n. paid-then _ _ _ (eval-paid at_one env n) (λ i k. paid_item cx t i k)))
@@ -132,7 +131,7 @@ module _ (cx : Context) where
     eval-paid (term.binary op.Less left right) env m = paid-more m 1 _ (paid-then _ _ _ (eval-paid left env (pay 1 m)) (λ x n. paid-then _ _ _ (eval-paid right env n) (λ y k. paid_atom (operated op.Less x y) k)))
     eval-paid (term.element t attrs children) env m =
         paid-more m 1 _ (paid-then _ _ _ (attrs-paid attrs env (record { key = tree.Atom atom.Null; props = [] }) (pay 1 m))
-          (λ more n. paid-then _ _ _ (all-paid children env [] n) (λ inside k. paid-then k.cost (with_children cx more inside k) (make_element cx t) (paid_children cx more inside k) (λ x l. paid_element cx t x l))))
+        (λ more n. paid-then _ _ _ (all-paid children env [] n) (λ inside k. paid-then k.cost (with_children cx more inside k) (make_element cx t) (paid_children cx more inside k) (λ x l. paid_element cx t x l))))
 
     pub all-paid : (ts : Terms) (env so_far : List Tree) (m : Machine) → Paid m.cost (eval_all cx ts env so_far m)
     all-paid term.no_terms env so_far m = record { least = omega arith }

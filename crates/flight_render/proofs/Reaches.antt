@@ -1,10 +1,9 @@
 -- Every value that is reached stands for one slot.
-use Rattle.std.proofs.Common.{◌≡◌, ℕ, Bool, true, false, ◌⊎◌, inl, inr, List, [], ◌∷◌, ◌++◌, map, Option, Some, None, slice_get, refl, sym, ap, ◌∙◌, subst}
+use Rattle.std.proofs.Common.{◌≡◌, ℕ, Bool, inl, inr, List, [], ◌∷◌, map, Option, Some, None, slice_get, refl, sym, ap, ◌∙◌, subst}
 use Rattle.std.specs.Prelude.{option_map, option_and_then}
 use Rattle.std.proofs.lemmas.Option.{none-some}
 use Rattle.flight_value.specs.Graph.{slots_of}
-use Rattle.flight_value.specs.Store as target
-use Rattle.flight_value.specs.Store.{Target, Shape, Label}
+use Rattle.flight_value.specs.Store.{Target, Shape}
 use Rattle.flight_value.specs.declared.graph.Slot.{Slot}
 use Rattle.flight_value.specs.declared.graph.Node.{Node}
 use Rattle.flight_value.specs.declared.graph.Node.TheVariants as node
@@ -12,15 +11,13 @@ use Rattle.flight_value.specs.declared.key.Key.{Key}
 use Rattle.flight_value.specs.declared.key.Key.TheVariants as key
 use Rattle.flight_value.specs.declared.made.Made.{Made}
 use Rattle.flight_value.specs.declared.made.Tree.{Tree}
-use Rattle.flight_value.specs.declared.name.Name.{Name}
 use Rattle.flight_syntax.specs.declared.script.Outcome.{Outcome}
-use Rattle.flight_syntax.specs.declared.script.Flowing.{Flowing}
 use Rattle.flight_render.specs.declared.root.Ground.{Ground}
 use Rattle.flight_render.specs.Run.{gave, threw, waits, End}
 use Rattle.flight_render.specs.Values.{outcomes, node_in, tree_of}
 use Rattle.flight_render.specs.Bodies.{node_at}
-use Rattle.flight_render.specs.Jobs.{Job, the_root, element, outcome, known, blank, Value, shown, of_job, failed, stopped, job_of, comes, value_of, target_of, IsTarget, Stands}
-use Rattle.flight_render.specs.Plain.{flow_slots, last_job, flow_last, flow_item, flow, label_of_kind, made_shape, source_slots, source_shape, flow_shape, shape_at, NodeIs}
+use Rattle.flight_render.specs.Jobs.{Job, outcome, Value, shown, of_job, comes, target_of, Stands}
+use Rattle.flight_render.specs.Plain.{flow_slots, last_job, flow_last, flow_item, flow, label_of_kind, made_shape, source_slots, source_shape, flow_shape, NodeIs}
 use Rattle.flight_render.specs.Costs.{In, Reached, at_root, through, in_slot}
 use Rattle.flight_render.proofs.Names.{some-injective}
 use Rattle.flight_render.proofs.Falling.{IsOwnJob, value_own, chain_ends, one_end}

@@ -1,11 +1,11 @@
 -- What a valid ground's sources hold, and which atoms operators make.
-use Rattle.std.proofs.Common.{◌≡◌, ℕ, zero, suc, ◌<◌, Bool, true, false, cond, nat_lt, ◌&&◌, ℤ, pos, negsuc, List, [], ◌∷◌, ◌++◌, map, length, Option, Some, None, unwrap_or, slice_get, refl, sym, ap, ◌∙◌, subst, arith}
-use Rattle.std.specs.Prelude.{◌^◌, ◌-◌, ◌+ℤ◌, ◌-ℤ◌, ◌*ℤ◌, All, position, bytes_eq, T, int_le, option_and_then}
+use Rattle.std.proofs.Common.{◌≡◌, ℕ, zero, suc, ◌<◌, Bool, true, false, cond, nat_lt, ◌&&◌, ℤ, pos, negsuc, List, [], ◌∷◌, ◌++◌, map, length, Option, Some, None, slice_get, refl, sym, subst, arith}
+use Rattle.std.specs.Prelude.{◌^◌, ◌-◌, ◌+ℤ◌, ◌-ℤ◌, ◌*ℤ◌, All, position, bytes_eq, T, int_le}
 use Rattle.std.specs.List.{AllByRecursion, position_or_len}
 use Rattle.std.proofs.lemmas.Option.{none-some}
 use Rattle.std.proofs.lemmas.Bool.{false≢true}
 use Rattle.std.proofs.lemmas.Bool.Decides.{nat_tests}
-use Rattle.flight_value.specs.Graph.{IsSafe, IsValid, IsValidAtom, IsValidSlot, IsValidNode, slots_of}
+use Rattle.flight_value.specs.Graph.{IsValid, IsValidAtom, IsValidSlot, IsValidNode, slots_of}
 use Rattle.flight_value.specs.declared.graph.Atom.{Atom}
 use Rattle.flight_value.specs.declared.graph.Atom.TheVariants as atom
 use Rattle.flight_value.specs.declared.graph.Slot.{Slot}
@@ -13,7 +13,6 @@ use Rattle.flight_value.specs.declared.graph.Slot.TheVariants as slot
 use Rattle.flight_value.specs.declared.graph.Prop.{Prop}
 use Rattle.flight_value.specs.declared.graph.Node.{Node}
 use Rattle.flight_value.specs.declared.graph.Node.TheVariants as node
-use Rattle.flight_value.specs.declared.graph.Graph.{Graph}
 use Rattle.flight_value.specs.declared.made.Made.{Made}
 use Rattle.flight_value.specs.declared.made.Tree.{Tree}
 use Rattle.flight_value.specs.declared.made.Tree.TheVariants as tree
@@ -22,12 +21,12 @@ use Rattle.flight_syntax.specs.declared.expr.Op.TheVariants as op
 use Rattle.flight_syntax.specs.declared.script.Outcome.{Outcome}
 use Rattle.flight_syntax.specs.declared.script.Outcome.TheVariants as outcome
 use Rattle.flight_syntax.specs.declared.script.Data.{Data}
-use Rattle.flight_syntax.specs.Script.{IsData, IsOutcome, IsScript}
+use Rattle.flight_syntax.specs.Script.{IsData, IsOutcome}
 use Rattle.flight_render.specs.declared.root.Ground.{Ground}
 use Rattle.flight_render.specs.declared.root.Root.{Root}
 use Rattle.flight_render.specs.declared.root.Root.TheVariants as root
-use Rattle.flight_render.specs.Run.{Step, gave, threw, waits, End}
-use Rattle.flight_render.specs.Values.{arguments, outcomes, tree_of, outcome_nodes, node_in, node_items, node_property, named_slot, undefined, end_if}
+use Rattle.flight_render.specs.Run.{Step, gave, threw, waits}
+use Rattle.flight_render.specs.Values.{arguments, outcomes, tree_of, outcome_nodes, node_in, node_items, node_property, named_slot, end_if}
 use Rattle.flight_render.specs.Operators.{range_digest, type_digest, is_safe, is_big, is_plain, whole, big, counted, same_plain, added, equal, less, operate, operated, key_of}
 use Rattle.flight_render.specs.Valid.{IsValidGround, IsRoot, IsNamed, IsLiteral, IsKey}
 use Rattle.flight_render.proofs.Names.{some-injective}
@@ -83,9 +82,9 @@ arguments_valid g (root.Call number args) h = (h.2.valid, tt)
 pub outcome_valid : (g : Ground) → IsValidGround g → (s : ℕ) (o : Outcome) → slice_get (outcomes g) s ≡ Some o → IsValidOutcome o
 outcome_valid g v s o e =
     each_at IsValidOutcome (outcomes g) s o
-      (each_append IsValidOutcome (map (λ d. d.outcome) g.script.sources) (arguments g.root)
-        (mapped_each IsData IsValidOutcome (λ d. d.outcome) data_valid g.script.sources (each_of IsData g.script.sources v.script.each_source))
-        (arguments_valid g g.root v.first)) e
+    (each_append IsValidOutcome (map (λ d. d.outcome) g.script.sources) (arguments g.root)
+    (mapped_each IsData IsValidOutcome (λ d. d.outcome) data_valid g.script.sources (each_of IsData g.script.sources v.script.each_source))
+    (arguments_valid g g.root v.first)) e
 
 -- a slot of a source is a value of it
 pub slot_named : (g : Ground) (us : List (List Made)) (s : ℕ) (o : Outcome) → slice_get (outcomes g) s ≡ Some o → (x : Slot) → IsValidSlot (length (outcome_nodes o)) x → IsNamed g us (tree_of o s x)

@@ -1,7 +1,7 @@
 -- Sums over lists of distinct addresses.
-use Rattle.std.proofs.Common.{◌≡◌, ℕ, ◌+◌, ◌≤◌, ◌<◌, Bool, ◌⊎◌, inl, inr, List, [], ◌∷◌, map, refl, sym, ap, ◌∙◌, subst, arith}
+use Rattle.std.proofs.Common.{◌≡◌, ℕ, ◌+◌, ◌≤◌, ◌<◌, Bool, inl, inr, List, [], ◌∷◌, map, refl, sym, ap, ◌∙◌, subst, arith}
 use Rattle.flight_render.specs.declared.root.Ground.{Ground}
-use Rattle.flight_render.specs.Costs.{In, Rendered, Distinct, total_of, Total, TotalOver}
+use Rattle.flight_render.specs.Costs.{In, Distinct, total_of, Total, TotalOver}
 use Rattle.flight_render.specs.Laws.{Grows}
 use Rattle.flight_render.proofs.Larger.{rendered-keeps}
 

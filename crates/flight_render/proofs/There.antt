@@ -1,14 +1,12 @@
 -- Over a valid ground every node that rendering names is there, and is made well.
-use Rattle.std.proofs.Common.{◌≡◌, ℕ, zero, suc, ◌+◌, ◌<◌, Bool, true, false, cond, nat_lt, ◌⊎◌, inl, inr, ⊎_elim, List, [], ◌∷◌, ◌++◌, map, length, Option, Some, None, unwrap_or, slice_get, refl, sym, ap, ap₂, ◌∙◌, subst, arith, append_assoc, append-nil}
-use Rattle.std.specs.Prelude.{option_and_then, option_map, is_some}
+use Rattle.std.proofs.Common.{◌≡◌, ℕ, Bool, true, false, cond, nat_lt, ◌⊎◌, inl, inr, ⊎_elim, List, [], ◌∷◌, ◌++◌, length, Option, Some, None, unwrap_or, slice_get, refl, sym, ap, ap₂, ◌∙◌, subst, append_assoc, append-nil}
+use Rattle.std.specs.Prelude.{option_and_then}
 use Rattle.std.specs.List.{AllByRecursion}
 use Rattle.std.proofs.lemmas.Option.{none-some}
 use Rattle.flight_value.specs.declared.graph.Graph.{Graph}
 use Rattle.flight_value.specs.declared.graph.Slot.{Slot}
 use Rattle.flight_value.specs.declared.graph.Slot.TheVariants as slot
 use Rattle.flight_value.specs.declared.made.Made.{Made}
-use Rattle.flight_value.specs.declared.made.MadeKind.{MadeKind}
-use Rattle.flight_value.specs.declared.made.MadeKind.TheVariants as kind
 use Rattle.flight_value.specs.declared.made.Tree.{Tree}
 use Rattle.flight_value.specs.declared.made.Tree.TheVariants as tree
 use Rattle.flight_value.specs.declared.name.Name.{Name}
@@ -18,14 +16,14 @@ use Rattle.flight_syntax.specs.declared.script.Outcome.TheVariants as outcome
 use Rattle.flight_render.specs.declared.root.Ground.{Ground}
 use Rattle.flight_render.specs.declared.root.Root.{Root}
 use Rattle.flight_render.specs.declared.root.Root.TheVariants as root
-use Rattle.flight_render.specs.Run.{Step, gave, threw, waits, Run, End, fail, and_then, on_step}
+use Rattle.flight_render.specs.Run.{Step, gave, threw, waits, Run, fail, and_then, on_step}
 use Rattle.flight_render.specs.Values.{made_in, items_in, property_in, tree_of, undefined}
 use Rattle.flight_render.specs.Operators.{depth_digest, type_digest}
 use Rattle.flight_render.specs.Eval.{Context, eval}
 use Rattle.flight_render.specs.Body.{Start, started, run_start, params_of, component_start, args_tree, action_start, root_start, body, root_body, fresh, give_last}
-use Rattle.flight_render.specs.Bodies.{inner, element_of, is_finished, finished, made_by, tables_with, next_body, body_at, node_at, tables_at, tables_for}
-use Rattle.flight_render.specs.Laws.{Met, Own, AllOwn, LeadBack, TablesLeadBack, NamesBack}
-use Rattle.flight_render.specs.Valid.{IsLawful, IsDeclared, IsValidGround, IsNamed, MadeWell, IsMade, TablesMade, BodyMade, IsKnown, ShowsKnown}
+use Rattle.flight_render.specs.Bodies.{inner, element_of, is_finished, finished, made_by, tables_with, next_body, body_at, node_at, tables_at, tables_for, TabledFor}
+use Rattle.flight_render.specs.Laws.{Met, Own, AllOwn, LeadBack, TablesLeadBack}
+use Rattle.flight_render.specs.Valid.{IsLawful, IsDeclared, IsValidGround, IsNamed, MadeWell, IsMade, TablesMade, AreTables, BodyMade, IsKnown}
 use Rattle.flight_render.proofs.Names.{some-injective, back_at, tables_snoc, own_table}
 use Rattle.flight_render.proofs.Larger.{finished-is, node_body}
 use Rattle.flight_render.proofs.Falling.{IsGave, gave_is, body_at-good, body_with-tables, tables_of-element}
@@ -66,9 +64,9 @@ declared_lawful g v number d e = each_at (IsDeclared g) g.program.declared numbe
 tables_made : (g : Ground) (ts : List (List Made)) (made : List Made) → TablesMade g ts → AllByRecursion (IsMade g (ts ++ made ∷ [])) made → TablesMade g (ts ++ made ∷ [])
 tables_made g ts made t n =
     each_append (AllByRecursion (IsMade g (ts ++ made ∷ []))) ts (made ∷ [])
-      (each_map (AllByRecursion (IsMade g ts)) (AllByRecursion (IsMade g (ts ++ made ∷ [])))
-        (λ x h. each_map (IsMade g ts) (IsMade g (ts ++ made ∷ [])) (made_has g ts (ts ++ made ∷ []) (has_added ts made)) x h) ts t)
-      (n, tt)
+    (each_map (AllByRecursion (IsMade g ts)) (AllByRecursion (IsMade g (ts ++ made ∷ [])))
+    (λ x h. each_map (IsMade g ts) (IsMade g (ts ++ made ∷ [])) (made_has g ts (ts ++ made ∷ []) (has_added ts made)) x h) ts t)
+    (n, tt)
 
 -- ---- what a body begins with
 
@@ -93,10 +91,10 @@ made_body : (g : Ground) → IsValidGround g → (s : List Bool) (a : List ℕ) 
 unfolding body
 made_body g v s a n ts made back lead t nodes c props =
     made_start (record { over = g; settled = s; address = a ++ n ∷ []; tables = ts ++ made ∷ [] }) v (tables_snoc [] a ts made n back lead) (tables_made g ts made t nodes)
-      (component_start g (ts ++ made ∷ []) (slice_get g.program.declared c) props)
-      (component_well g v (ts ++ made ∷ []) props
-        (λ name u is. property_fine (record { over = g; settled = s; address = a; tables = ts }) v back t made nodes name props u is)
-        (slice_get g.program.declared c) (λ d e. declared_lawful g v c d e))
+    (component_start g (ts ++ made ∷ []) (slice_get g.program.declared c) props)
+    (component_well g v (ts ++ made ∷ []) props
+    (λ name u is. property_fine (record { over = g; settled = s; address = a; tables = ts }) v back t made nodes name props u is)
+    (slice_get g.program.declared c) (λ d e. declared_lawful g v c d e))
 
 made_root : (g : Ground) → IsValidGround g → (s : List Bool) → BodyMade g [] (root_body g s)
 unfolding root_body
@@ -105,6 +103,7 @@ made_root g v s = made_start (record { over = g; settled = s; address = []; tabl
     found : (o : Option ℕ) (d : Declared) → option_and_then (slice_get g.program.declared) o ≡ Some d → IsDeclared g d
     found None d e = absurd (none-some d e)
     found (Some i) d e = declared_lawful g v i d e
+
     items : (args : Graph) (o : Option (List Tree)) → items_in g [] (args_tree g args) ≡ o → AllByRecursion (IsNamed g ([] ∷ [])) (unwrap_or o [])
     items args None e = tt
     items args (Some ts) e = from_slot args.root e
@@ -112,12 +111,14 @@ made_root g v s = made_start (record { over = g; settled = s; address = []; tabl
         from_slot : (x : Slot) → items_in g [] (tree_of (outcome.Value args) (length g.script.sources) x) ≡ Some ts → AllByRecursion (IsNamed g ([] ∷ [])) ts
         from_slot (slot.Atom a) q = absurd (none-some ts q)
         from_slot (slot.Node n) q = items_fine (record { over = g; settled = s; address = []; tables = [] }) v tt tt [] tt (tree.FromSource (length g.script.sources) n) ts q
+
     action : (args : Graph) (o : Option Declared) → ((d : Declared) → o ≡ Some d → IsDeclared g d) → (x : Start) → action_start g o args ≡ Some x → StartsWell g [] x
     action args None l x is = absurd (none-some x is)
     action args (Some (declared.Client name import)) l x is = absurd (none-some x is)
     action args (Some (declared.Server name params e)) l x is = absurd (none-some x is)
     action args (Some (declared.Action name params e)) l x is =
         subst (StartsWell g []) (some-injective _ x is) ((length params, (l (declared.Action name params e) refl).1), items args (items_in g [] (args_tree g args)) refl)
+
     go : (r : Root) (x : Start) → root_start g r ≡ Some x → StartsWell g [] x
     go root.App x is = component_well g v [] undefined (λ name u q. absurd (none-some u q)) (option_and_then (slice_get g.program.declared) _) (found _) x is
     go (root.Call number args) x is = action args (slice_get g.program.declared number) (λ d e. declared_lawful g v number d e) x is
@@ -161,34 +162,42 @@ tabled_next g v s a i above b is = by_node (node_at g s name) refl
   where
     name : Name
     name = record { render = a; serial = i }
+
     next : next_body g s (tables_for g s name) (a ++ i ∷ []) (element_of (node_at g s name)) ≡ Some b
     next = sym (body_with-tables g s name) ∙ is
+
     build : (m : Made) → node_at g s name ≡ Some m → (c : Run Tree) → body_at g s a ≡ Some c → is_finished c.step ≡ true → (e : ℕ × Tree) → element_of (Some m) ≡ Some e → Tabled g s (a ++ i ∷ []) b
     build m at c here fin e elem =
         record {
           back = subst (TablesLeadBack [] (a ++ i ∷ [])) (sym all) (tables_snoc [] a (tables_at g s a) c.after.made i k.back (body_at-good g s a c here).nodes);
           tables = subst (TablesMade g) (sym all) (tables_made g (tables_at g s a) c.after.made k.tables k.here.nodes);
           here = subst (λ z. BodyMade g z b) (sym all)
-            (subst (BodyMade g (tables_at g s a ++ c.after.made ∷ [])) same (made_body g v s a i (tables_at g s a) c.after.made k.back (body_at-good g s a c here).nodes k.tables k.here.nodes e.0 e.1));
+              (subst (BodyMade g (tables_at g s a ++ c.after.made ∷ [])) same (made_body g v s a i (tables_at g s a) c.after.made k.back (body_at-good g s a c here).nodes k.tables k.here.nodes e.0 e.1));
           prefixes = λ r j t met get. prefix r j t met (subst (λ z. slice_get z (length r) ≡ Some t) all get);
         }
       where
         k : Tabled g s a c
         k = above c here
+
         tables : tables_for g s name ≡ tables_at g s a ++ c.after.made ∷ []
         tables = ap (λ z. tables_with (tables_at g s a) (finished z)) here ∙ ap (tables_with (tables_at g s a)) (finished-is c fin)
+
         all : tables_at g s (a ++ i ∷ []) ≡ tables_at g s a ++ c.after.made ∷ []
         all = tables_of-element g s name ∙ tables
+
         same : body g s (tables_at g s a ++ c.after.made ∷ []) e.0 e.1 (a ++ i ∷ []) ≡ b
         same = some-injective _ b (ap₂ (λ z o. next_body g s z (a ++ i ∷ []) o) (sym tables) (sym (ap element_of at ∙ elem)) ∙ next)
+
         prefix : (r : List ℕ) (j : ℕ) (t : List Made) → Met (a ++ i ∷ []) r j → slice_get (tables_at g s a ++ c.after.made ∷ []) (length r) ≡ Some t → (d : Run Tree) × (body_at g s r ≡ Some d) × (is_finished d.step ≡ true) × (d.after.made ≡ t)
         prefix r j t met get =
             ⊎_elim (λ w. k.prefixes r j t w (sym (table_below [] a r j (tables_at g s a) c.after.made k.back w) ∙ get))
-              (λ w. (c, ap (body_at g s) w ∙ here, fin, some-injective c.after.made t (sym (own_table [] a (tables_at g s a) c.after.made k.back) ∙ ap (λ z. slice_get (tables_at g s a ++ c.after.made ∷ []) (length z)) (sym w) ∙ get)))
-              (met_cases a r j i met)
+            (λ w. (c, ap (body_at g s) w ∙ here, fin, some-injective c.after.made t (sym (own_table [] a (tables_at g s a) c.after.made k.back) ∙ ap (λ z. slice_get (tables_at g s a ++ c.after.made ∷ []) (length z)) (sym w) ∙ get)))
+            (met_cases a r j i met)
+
     by_element : (m : Made) → node_at g s name ≡ Some m → (o : Option (ℕ × Tree)) → element_of (Some m) ≡ o → Tabled g s (a ++ i ∷ []) b
     by_element m at None e = absurd (none-some b (sym (ap (next_body g s (tables_for g s name) (a ++ i ∷ [])) (ap element_of at ∙ e)) ∙ next))
     by_element m at (Some x) e = let c = node_body g s name m at in build m at c.0 c.1 c.2 x e
+
     by_node : (o : Option Made) → node_at g s name ≡ o → Tabled g s (a ++ i ∷ []) b
     by_node None e = absurd (none-some b (sym (ap (λ z. next_body g s (tables_for g s name) (a ++ i ∷ []) (element_of z)) e) ∙ next))
     by_node (Some m) e = by_element m e (element_of (Some m)) refl
@@ -207,10 +216,12 @@ there g v s a b is fin k n own m e = ⊎_elim (λ w. here w.0) (λ w. above w (s
   where
     t : Tabled g s a b
     t = body_tabled g v s a b is
+
     here : n.render ≡ a → made_by (finished (body_at g s n.render)) n.serial ≡ Some m
     here q =
         ap (λ z. made_by (finished z) n.serial) (ap (body_at g s) q ∙ is) ∙ ap (λ z. made_by z n.serial) (finished-is b fin)
         ∙ sym (ap (option_and_then (λ z. slice_get z n.serial)) (ap (λ z. slice_get (tables_at g s a ++ b.after.made ∷ []) (length z)) q ∙ own_table [] a (tables_at g s a) b.after.made t.back)) ∙ e
+
     above : Met a n.render n.serial → (o : Option (List Made)) → slice_get (tables_at g s a ++ b.after.made ∷ []) (length n.render) ≡ o → option_and_then (λ z. slice_get z n.serial) o ≡ Some m → made_by (finished (body_at g s n.render)) n.serial ≡ Some m
     above w None q r = absurd (none-some m r)
     above w (Some x) q r =
@@ -240,10 +251,13 @@ node_known g v s n m is = (all m.slots (back_at n.render b.0.after.made n.serial
   where
     b : (b : Run Tree) × (body_at g s n.render ≡ Some b) × (is_finished b.step ≡ true) × (slice_get b.after.made n.serial ≡ Some m)
     b = node_body g s n m is
+
     t : Tabled g s n.render b.0
     t = body_tabled g v s n.render b.0 b.1
+
     made : IsMade g (tables_at g s n.render ++ b.0.after.made ∷ []) m
     made = each_at (IsMade g (tables_at g s n.render ++ b.0.after.made ∷ [])) b.0.after.made n.serial m t.here.nodes b.3
+
     all : (ts : List Tree) → AllOwn n.render n.serial ts → AllByRecursion (IsNamed g (tables_at g s n.render ++ b.0.after.made ∷ [])) ts → AllByRecursion (IsKnown g s) ts
     all [] o h = tt
     all (x ∷ ts) o h = (known_named g v s n.render b.0 b.1 b.2 n.serial x o.0 h.0, all ts o.1 h.1)
@@ -252,3 +266,29 @@ node_known g v s n m is = (all m.slots (back_at n.render b.0.after.made n.serial
 pub gives_known : (g : Ground) → IsValidGround g → (s : List Bool) (a : List ℕ) (b : Run Tree) → body_at g s a ≡ Some b → (t : Tree) → b.step ≡ gave t → IsKnown g s t
 gives_known g v s a b is t e =
     known_named g v s a b is (ap is_finished e) (length b.after.made) t ((body_at-good g s a b is).value t e) ((body_tabled g v s a b is).here.value t e)
+
+-- the tables of an element that is there are tables of its address, and the element is one of their nodes
+pub tables_belong : (g : Ground) → IsValidGround g → (s : List Bool) (n : Name) (tables : List (List Made)) → TabledFor g s n tables → AreTables g (inner n) tables × (made_in tables n ≡ node_at g s n)
+tables_belong g v s n tables x = (subst (AreTables g (inner n)) (sym whole) (record { back = back; made = made }), ap (λ z. made_in z n) whole ∙ found ∙ sym x.0.1)
+  where
+    b : (b : Run Tree) × (body_at g s n.render ≡ Some b) × (is_finished b.step ≡ true) × (slice_get b.after.made n.serial ≡ Some x.0.0)
+    b = node_body g s n x.0.0 x.0.1
+
+    t : Tabled g s n.render b.0
+    t = body_tabled g v s n.render b.0 b.1
+
+    whole : tables ≡ tables_at g s n.render ++ b.0.after.made ∷ []
+    whole = x.1 ∙ ap (λ z. tables_with (tables_at g s n.render) (finished z)) b.1 ∙ ap (tables_with (tables_at g s n.render)) (finished-is b.0 b.2)
+
+    back : TablesLeadBack [] (inner n) (tables_at g s n.render ++ b.0.after.made ∷ [])
+    back = tables_snoc [] n.render (tables_at g s n.render) b.0.after.made n.serial t.back (body_at-good g s n.render b.0 b.1).nodes
+
+    made : TablesMade g (tables_at g s n.render ++ b.0.after.made ∷ [])
+    made = tables_made g (tables_at g s n.render) b.0.after.made t.tables t.here.nodes
+
+    found : made_in (tables_at g s n.render ++ b.0.after.made ∷ []) n ≡ Some x.0.0
+    found = ap (option_and_then (λ z. slice_get z n.serial)) (own_table [] n.render (tables_at g s n.render) b.0.after.made t.back) ∙ b.3
+
+-- a body that is rendered makes its nodes well
+pub rendered_made : (g : Ground) → IsValidGround g → (s : List Bool) (a : List ℕ) (b : Run Tree) → body_at g s a ≡ Some b → BodyMade g (tables_at g s a) b
+rendered_made g v s a b is = (body_tabled g v s a b is).here

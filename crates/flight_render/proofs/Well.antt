@@ -1,32 +1,29 @@
 -- The nodes that a body makes over a valid ground are made well, and every node that it names is there.
-use Rattle.std.proofs.Common.{◌≡◌, ◌≢◌, ℕ, zero, suc, ◌+◌, ◌<◌, Bool, true, false, cond, pos, negsuc, List, [], ◌∷◌, ◌++◌, map, length, Option, Some, None, unwrap_or, slice_get, refl, sym, ap, ◌∙◌, subst, arith, length-append, append_assoc, append-nil}
+use Rattle.std.proofs.Common.{◌≡◌, ℕ, zero, suc, ◌+◌, ◌<◌, Bool, true, false, cond, pos, negsuc, List, [], ◌∷◌, ◌++◌, map, length, Option, Some, None, unwrap_or, slice_get, refl, sym, ap, ◌∙◌, subst, arith, length-append, append_assoc, append-nil}
 use Rattle.std.specs.Prelude.{bytes_eq, codes, option_and_then}
 use Rattle.std.specs.List.{AllByRecursion}
 use Rattle.std.proofs.lemmas.Option.{none-some}
-use Rattle.flight_value.specs.Graph.{IsValidAtom, Ascend, slots_of}
+use Rattle.flight_value.specs.Graph.{IsValidAtom}
 use Rattle.flight_value.specs.declared.graph.Atom.{Atom}
 use Rattle.flight_value.specs.declared.graph.Atom.TheVariants as atom
-use Rattle.flight_value.specs.declared.graph.Node.{Node}
 use Rattle.flight_value.specs.declared.made.Made.{Made}
 use Rattle.flight_value.specs.declared.made.MadeKind.{MadeKind}
 use Rattle.flight_value.specs.declared.made.MadeKind.TheVariants as kind
 use Rattle.flight_value.specs.declared.made.Tree.{Tree}
 use Rattle.flight_value.specs.declared.made.Tree.TheVariants as tree
 use Rattle.flight_value.specs.declared.name.Name.{Name}
-use Rattle.flight_syntax.specs.declared.expr.Op.{Op}
 use Rattle.flight_syntax.specs.declared.expr.Op.TheVariants as op
 use Rattle.flight_syntax.specs.declared.expr.Tag.{Tag}
 use Rattle.flight_syntax.specs.declared.expr.Tag.TheVariants as tag
-use Rattle.flight_syntax.specs.declared.script.Outcome.{Outcome}
 use Rattle.flight_syntax.specs.Term as term
 use Rattle.flight_syntax.specs.Term.{Term, Terms, Props, Pairs}
 use Rattle.flight_render.specs.declared.root.Ground.{Ground}
-use Rattle.flight_render.specs.Run.{Machine, Step, gave, threw, waits, Run, pay, on_step, and_then, ends, give, fail, make}
-use Rattle.flight_render.specs.Values.{is_settled, end_if, source_named, stream_named, source_end, outcomes, import_at, made_in, made_items, node_items, node_in, items_in, made_property, node_property, named_slot, property_in, undefined}
+use Rattle.flight_render.specs.Run.{Machine, Step, gave, threw, waits, Run, pay, on_step, and_then, ends, give, fail}
+use Rattle.flight_render.specs.Values.{is_settled, source_named, stream_named, source_end, outcomes, import_at, made_in, made_items, node_items, node_in, items_in, made_property, node_property, named_slot, property_in, undefined}
 use Rattle.flight_render.specs.Operators.{type_digest, missing_digest, operated, key_of, thrown}
 use Rattle.flight_render.specs.Eval.{Context, Attributes, known, make_here, give_or_fail, give_atom, item_at, branch, each, make_bound, by_name, make_object, with_attribute, with_children, tag_tree, make_tagged, make_element, eval, eval_all, eval_props, eval_pairs, eval_attrs}
 use Rattle.flight_render.specs.Laws.{TablesLeadBack}
-use Rattle.flight_render.specs.Valid.{IsServerAt, IsActionAt, Differs, NoneTwice, names_of, HasChildrenOnce, IsTagOf, IsLawful, AreLawful, PropsLawful, PairsLawful, IsValidGround, IsNamed, MadeAs, IsArrayKind, IsObjectKind, IsPromiseKind, IsKey, MadeWell, IsMade, TablesMade}
+use Rattle.flight_render.specs.Valid.{IsActionAt, NoneTwice, names_of, IsTagOf, IsLawful, AreLawful, PropsLawful, PairsLawful, IsValidGround, IsNamed, MadeAs, IsArrayKind, IsObjectKind, IsPromiseKind, IsKey, MadeWell, IsMade, TablesMade}
 use Rattle.flight_render.proofs.Names.{some-injective, own_table}
 use Rattle.flight_render.proofs.Ordered.{names_in, sorted_ascends, each_sorted, twice_drop, twice_last}
 use Rattle.flight_render.proofs.Sourced.{each_at, each_append, each_map, mapped_each, position_within, outcome_valid, node_valid, OnGave, source_is-named, slot_of_name, source_items, source_property, literal_valid, valid_operated, key_is-key}
@@ -179,14 +176,19 @@ module _ (cx : Context) (valid : IsValidGround cx.over) (back : TablesLeadBack [
     where
       x : Made
       x = record { kind = k; slots = slots }
+
       after : List Made
       after = m.made ++ x ∷ []
+
       has : Has (with_made m.made) (with_made after)
       has = has_grown cx.tables m.made (x ∷ [])
+
       old : AllByRecursion (IsMade cx.over (with_made after)) m.made
       old = each_map (IsMade cx.over (with_made m.made)) (IsMade cx.over (with_made after)) (made_has cx.over (with_made m.made) (with_made after) has) m.made n
+
       new : IsMade cx.over (with_made after) x
       new = made_has cx.over (with_made m.made) (with_made after) has x (h, w)
+
       found : made_in (with_made after) (record { render = cx.address; serial = length m.made }) ≡ Some x
       found = ap (option_and_then (λ t. slice_get t (length m.made))) (own_table [] cx.address cx.tables after back) ∙ get_push m.made x
 
@@ -203,10 +205,10 @@ module _ (cx : Context) (valid : IsValidGround cx.over) (back : TablesLeadBack [
   node_made : (made : List Made) → Nodes made → (n : Name) (m : Made) → made_in (with_made made) n ≡ Some m → IsMade cx.over (with_made made) m
   node_made made n name m e =
       found_made (IsMade cx.over (with_made made)) (with_made made)
-        (each_append (AllByRecursion (IsMade cx.over (with_made made))) cx.tables (made ∷ [])
-          (each_map (AllByRecursion (IsMade cx.over cx.tables)) (AllByRecursion (IsMade cx.over (with_made made)))
-            (λ t h. each_map (IsMade cx.over cx.tables) (IsMade cx.over (with_made made)) (made_has cx.over cx.tables (with_made made) (has_added cx.tables made)) t h) cx.tables tables)
-          (n, tt)) name m e
+      (each_append (AllByRecursion (IsMade cx.over (with_made made))) cx.tables (made ∷ [])
+      (each_map (AllByRecursion (IsMade cx.over cx.tables)) (AllByRecursion (IsMade cx.over (with_made made)))
+      (λ t h. each_map (IsMade cx.over cx.tables) (IsMade cx.over (with_made made)) (made_has cx.over cx.tables (with_made made) (has_added cx.tables made)) t h) cx.tables tables)
+      (n, tt)) name m e
 
   read_fine : {A B : Type 0} (P : B → Type 0) (f : A → Option B) (o : Option A) → ((x : A) → o ≡ Some x → (y : B) → f x ≡ Some y → P y) → (y : B) → option_and_then f o ≡ Some y → P y
   read_fine P f None h y is = absurd (none-some y is)
@@ -242,7 +244,7 @@ module _ (cx : Context) (valid : IsValidGround cx.over) (back : TablesLeadBack [
   items_fine made n (tree.Made name) items is = read_fine (AllFine made) made_items (made_in (with_made made) name) (λ x e ys f. made_items-fine made x (node_made made n name x e).0 ys f) items is
   items_fine made n (tree.FromSource s i) items is =
       read_fine (AllFine made) (λ o. option_and_then (node_items o s) (node_in o i)) (slice_get (outcomes cx.over) s)
-        (λ o e ys f. read_fine (AllFine made) (node_items o s) (node_in o i) (λ x q zs r. source_items cx.over (with_made made) s o e x (node_valid o i x (outcome_valid cx.over valid s o e) q) zs r) ys f) items is
+      (λ o e ys f. read_fine (AllFine made) (node_items o s) (node_in o i) (λ x q zs r. source_items cx.over (with_made made) s o e x (node_valid o i x (outcome_valid cx.over valid s o e) q) zs r) ys f) items is
   items_fine made n (tree.Atom a) items is = absurd (none-some items is)
   items_fine made n (tree.Promise s) items is = absurd (none-some items is)
   items_fine made n (tree.Stream s) items is = absurd (none-some items is)
@@ -252,7 +254,7 @@ module _ (cx : Context) (valid : IsValidGround cx.over) (back : TablesLeadBack [
   property_fine made n name (tree.Made q) u is = read_fine (Fine made) (made_property name) (made_in (with_made made) q) (λ x e y f. made_property-fine made name x (node_made made n q x e).0 y f) u is
   property_fine made n name (tree.FromSource s i) u is =
       read_fine (Fine made) (λ o. option_and_then (node_property o s name) (node_in o i)) (slice_get (outcomes cx.over) s)
-        (λ o e y f. read_fine (Fine made) (node_property o s name) (node_in o i) (λ x q z r. source_property cx.over (with_made made) s o e name x (node_valid o i x (outcome_valid cx.over valid s o e) q) z r) y f) u is
+      (λ o e y f. read_fine (Fine made) (node_property o s name) (node_in o i) (λ x q z r. source_property cx.over (with_made made) s o e name x (node_valid o i x (outcome_valid cx.over valid s o e) q) z r) y f) u is
   property_fine made n name (tree.Atom a) u is = absurd (none-some u is)
   property_fine made n name (tree.Promise s) u is = absurd (none-some u is)
   property_fine made n name (tree.Stream s) u is = absurd (none-some u is)
@@ -269,12 +271,12 @@ module _ (cx : Context) (valid : IsValidGround cx.over) (back : TablesLeadBack [
   well_index : (t i : Tree) (m : Machine) → Nodes m.made → Well Fine m.made (item_at cx t i m)
   well_index t (tree.Atom (atom.Whole (pos i))) m n =
       well_then AllFine Fine m.made (give_or_fail type_digest (items_in cx.over (known cx m) t) m) (λ items k. give_or_fail missing_digest (slice_get items i) k)
-        (well_option AllFine type_digest (items_in cx.over (known cx m) t) m n (λ ts is. items_fine m.made n t ts is))
-        (λ items k e nk h. well_option Fine missing_digest (slice_get items i) k nk (λ x is. item_fine k.made items i x h is))
+      (well_option AllFine type_digest (items_in cx.over (known cx m) t) m n (λ ts is. items_fine m.made n t ts is))
+      (λ items k e nk h. well_option Fine missing_digest (slice_get items i) k nk (λ x is. item_fine k.made items i x h is))
   well_index t (tree.Atom (atom.Whole (negsuc i))) m n =
       well_then AllFine Fine m.made (give_or_fail type_digest (items_in cx.over (known cx m) t) m) (λ items k. fail missing_digest k)
-        (well_option AllFine type_digest (items_in cx.over (known cx m) t) m n (λ ts is. items_fine m.made n t ts is))
-        (λ items k e nk h. well_end Fine (threw missing_digest) k nk tt)
+      (well_option AllFine type_digest (items_in cx.over (known cx m) t) m n (λ ts is. items_fine m.made n t ts is))
+      (λ items k e nk h. well_end Fine (threw missing_digest) k nk tt)
   well_index t _ m n = well_end Fine (threw type_digest) m n tt
 
   well_branch : (t : Tree) (y o : Machine → Run Tree) (m : Machine) → Nodes m.made → Well Fine m.made (y m) → Well Fine m.made (o m) → Well Fine m.made (branch t y o m)
@@ -288,8 +290,8 @@ module _ (cx : Context) (valid : IsValidGround cx.over) (back : TablesLeadBack [
   well_each run low one [] so_far m n e h k = well_end AllFine (gave so_far) m n k
   well_each run low one (item ∷ items) so_far m n e h k =
       well_then Fine AllFine m.made (run item m) (λ result l. each run items (so_far ++ result ∷ []) l) (one item m n e h.0)
-        (λ t l f nl own. well_each run low one items (so_far ++ t ∷ []) l nl (extends_trans low m.made l.made e f) (all_fine_more m.made l.made f items h.1)
-          (each_append (Fine l.made) so_far (t ∷ []) (all_fine_more m.made l.made f so_far k) (own, tt)))
+      (λ t l f nl own. well_each run low one items (so_far ++ t ∷ []) l nl (extends_trans low m.made l.made e f) (all_fine_more m.made l.made f items h.1)
+      (each_append (Fine l.made) so_far (t ∷ []) (all_fine_more m.made l.made f so_far k) (own, tt)))
 
   -- ---- objects and elements
 
@@ -323,8 +325,8 @@ module _ (cx : Context) (valid : IsValidGround cx.over) (back : TablesLeadBack [
   unfolding PropsDistinct PropsFine
   well_object ps m n h =
       well_make IsObjectKind (kind.Object (names_in (by_name ps))) (map (λ p. p.1) (by_name ps)) m tt n
-        (mapped_each (λ p. Fine m.made p.1) (Fine m.made) (λ p. p.1) (λ p w. w) (by_name ps) (each_sorted (λ p. Fine m.made p.1) ps h.0))
-        (sorted_ascends ps h.1, same_length (λ p. p.1) (λ p. p.0) (by_name ps))
+      (mapped_each (λ p. Fine m.made p.1) (Fine m.made) (λ p. p.1) (λ p w. w) (by_name ps) (each_sorted (λ p. Fine m.made p.1) ps h.0))
+      (sorted_ascends ps h.1, same_length (λ p. p.1) (λ p. p.0) (by_name ps))
 
   well_plain_object : (ps : List (List ℕ × Tree)) (m : Machine) → Nodes m.made → PropsDistinct m.made ps → Well Fine m.made (make_object cx ps m)
   unfolding FineAs
@@ -338,6 +340,7 @@ module _ (cx : Context) (valid : IsValidGround cx.over) (back : TablesLeadBack [
       keyed (gave k) q = record { grows = same_nodes m.made; nodes = n; value = (q.0, q.1, h.2, twice_drop (names_in x.props) tail name h.3) }
       keyed (threw d) q = record { grows = same_nodes m.made; nodes = n; value = tt }
       keyed (waits s) q = record { grows = same_nodes m.made; nodes = n; value = tt }
+
       go : (b : Bool) → Well (AttrsDistinct tail) m.made (cond b (on_step (key_of t) (λ key k. give (record { key = tree.Atom key; props = x.props }) k) m) (give (record { key = x.key; props = x.props ++ (name, t) ∷ [] }) m))
       go true = keyed (key_of t) (key_is-key t)
       go false = record { grows = same_nodes m.made; nodes = n; value = (h.0, h.1, each_append (λ p. Fine m.made p.1) x.props ((name, t) ∷ []) h.2 (w, tt), names_next x.props (name, t) tail h.3) }
@@ -353,9 +356,12 @@ module _ (cx : Context) (valid : IsValidGround cx.over) (back : TablesLeadBack [
       record { grows = same_nodes m.made; nodes = n; value = (h.0, h.1, each_append (λ p. Fine m.made p.1) x.props ((codes "children", t) ∷ []) h.2 (w.0, tt), names_next x.props (codes "children", t) [] h.3) }
   well_children x (t ∷ u ∷ ts) m n h w =
       well_then Fine (AttrsDistinct []) m.made (make_here cx kind.Array (t ∷ u ∷ ts) m) (λ array k. give (record { key = x.key; props = x.props ++ (codes "children", array) ∷ [] }) k)
-        (well_node kind.Array (t ∷ u ∷ ts) m n w tt)
-        (λ array k e nk own. record { grows = same_nodes k.made; nodes = nk;
-          value = (h.0, fine_more m.made k.made e x.key h.1, each_append (λ p. Fine k.made p.1) x.props ((codes "children", array) ∷ []) (props_more m.made k.made e x.props h.2) (own, tt), names_next x.props (codes "children", array) [] h.3) })
+      (well_node kind.Array (t ∷ u ∷ ts) m n w tt)
+      (λ array k e nk own. record {
+        grows = same_nodes k.made;
+        nodes = nk;
+        value = (h.0, fine_more m.made k.made e x.key h.1, each_append (λ p. Fine k.made p.1) x.props ((codes "children", array) ∷ []) (props_more m.made k.made e x.props h.2) (own, tt), names_next x.props (codes "children", array) [] h.3);
+      })
 
   well_tagged : (t : Tag) (key props : Tree) (m : Machine) → IsTagOf cx.over t → Nodes m.made → IsKey key → Fine m.made key → FineAs IsObjectKind m.made props → Well Fine m.made (make_tagged cx t key props m)
   unfolding FineAs
@@ -368,17 +374,17 @@ module _ (cx : Context) (valid : IsValidGround cx.over) (back : TablesLeadBack [
   unfolding AttrsDistinct PropsDistinct
   well_element t x m is n h =
       well_then (FineAs IsObjectKind) Fine m.made (make_object cx x.props m) (λ props k. make_tagged cx t x.key props k)
-        (well_object x.props m n (h.2, subst NoneTwice (append-nil (names_in x.props)) h.3))
-        (λ props k e nk own. well_tagged t x.key props k is nk h.0 (fine_more m.made k.made e x.key h.1) own)
+      (well_object x.props m n (h.2, subst NoneTwice (append-nil (names_in x.props)) h.3))
+      (λ props k e nk own. well_tagged t x.key props k is nk h.0 (fine_more m.made k.made e x.key h.1) own)
 
   well_bound : (action : ℕ) (ts : List Tree) (m : Machine) → IsActionAt cx.over action → Nodes m.made → AllFine m.made ts → Well Fine m.made (make_bound cx action ts m)
   unfolding FineAs
   well_bound action ts m is n h =
       well_then (FineAs IsArrayKind) Fine m.made (make_here cx kind.Array ts m) (λ array k. and_then (make_here cx kind.Promise (array ∷ []) k) (λ promise l. make_here cx (kind.Bound action) (promise ∷ []) l))
-        (well_make IsArrayKind kind.Array ts m tt n h tt)
-        (λ array k e nk own. well_then (FineAs IsPromiseKind) Fine k.made (make_here cx kind.Promise (array ∷ []) k) (λ promise l. make_here cx (kind.Bound action) (promise ∷ []) l)
-          (well_make IsPromiseKind kind.Promise (array ∷ []) k tt nk (own.0, tt) (array, refl, own.1))
-          (λ promise l f nl ol. well_node (kind.Bound action) (promise ∷ []) l nl (ol.0, tt) (is, (promise, refl, ol.1))))
+      (well_make IsArrayKind kind.Array ts m tt n h tt)
+      (λ array k e nk own. well_then (FineAs IsPromiseKind) Fine k.made (make_here cx kind.Promise (array ∷ []) k) (λ promise l. make_here cx (kind.Bound action) (promise ∷ []) l)
+      (well_make IsPromiseKind kind.Promise (array ∷ []) k tt nk (own.0, tt) (array, refl, own.1))
+      (λ promise l f nl ol. well_node (kind.Bound action) (promise ∷ []) l nl (ol.0, tt) (is, (promise, refl, ol.1))))
 
   -- ---- expressions
 
@@ -391,30 +397,31 @@ module _ (cx : Context) (valid : IsValidGround cx.over) (back : TablesLeadBack [
 
   mutual
     unfolding PropsDistinct PropsFine AttrsDistinct PairsFine
+
     pub eval-well : (scope : ℕ) (t : Term) (env : List Tree) (m : Machine) → IsLawful cx.over scope t → Nodes m.made → AllFine m.made env → Well Fine m.made (eval cx t env m)
     eval-well scope (term.let_in name value rest) env m l n h =
         well_then _ _ _ _ _ (eval-well scope value env (pay 1 m) l.0 n h)
-          (λ t k e nk own. eval-well (suc scope) rest (env ++ t ∷ []) k l.1 nk (each_append (Fine k.made) env (t ∷ []) (all_fine_more m.made k.made e env h) (own, tt)))
+        (λ t k e nk own. eval-well (suc scope) rest (env ++ t ∷ []) k l.1 nk (each_append (Fine k.made) env (t ∷ []) (all_fine_more m.made k.made e env h) (own, tt)))
     eval-well scope (term.if_else test yes_one other) env m l n h =
         well_then _ _ _ _ _ (eval-well scope test env (pay 1 m) l.0 n h)
-          (λ t k e nk own. well_branch t (eval cx yes_one env) (eval cx other env) k nk
-            (eval-well scope yes_one env k l.1 nk (all_fine_more m.made k.made e env h)) (eval-well scope other env k l.2 nk (all_fine_more m.made k.made e env h)))
+        (λ t k e nk own. well_branch t (eval cx yes_one env) (eval cx other env) k nk
+        (eval-well scope yes_one env k l.1 nk (all_fine_more m.made k.made e env h)) (eval-well scope other env k l.2 nk (all_fine_more m.made k.made e env h)))
     eval-well scope (term.for_in name over give_one) env m l n h =
         well_then _ _ _ _ _ (eval-well scope over env (pay 1 m) l.0 n h)
-          (λ t k e nk own. well_then AllFine Fine k.made (give_or_fail type_digest (items_in cx.over (known cx k) t) k) _ (well_option AllFine type_digest (items_in cx.over (known cx k) t) k nk (λ ts is. items_fine k.made nk t ts is))
-            (λ items i f ni oi. well_then AllFine Fine i.made (each (λ item j. eval cx give_one (env ++ item ∷ []) j) items [] i) _
-              (well_each (λ item j. eval cx give_one (env ++ item ∷ []) j) i.made
-                (λ item j nj up oj. eval-well (suc scope) give_one (env ++ item ∷ []) j l.1 nj
-                  (each_append (Fine j.made) env (item ∷ []) (all_fine_more m.made j.made (extends_trans m.made i.made j.made (extends_trans m.made k.made i.made e f) up) env h) (oj, tt)))
-                items [] i ni (same_nodes i.made) oi tt)
-              (λ ts j g nj oj. well_node kind.Array ts j nj oj tt)))
+        (λ t k e nk own. well_then AllFine Fine k.made (give_or_fail type_digest (items_in cx.over (known cx k) t) k) _ (well_option AllFine type_digest (items_in cx.over (known cx k) t) k nk (λ ts is. items_fine k.made nk t ts is))
+        (λ items i f ni oi. well_then AllFine Fine i.made (each (λ item j. eval cx give_one (env ++ item ∷ []) j) items [] i) _
+        (well_each (λ item j. eval cx give_one (env ++ item ∷ []) j) i.made
+        (λ item j nj up oj. eval-well (suc scope) give_one (env ++ item ∷ []) j l.1 nj
+        (each_append (Fine j.made) env (item ∷ []) (all_fine_more m.made j.made (extends_trans m.made i.made j.made (extends_trans m.made k.made i.made e f) up) env h) (oj, tt)))
+        items [] i ni (same_nodes i.made) oi tt)
+        (λ ts j g nj oj. well_node kind.Array ts j nj oj tt)))
     eval-well scope (term.throw value) env m l n h = well_then _ _ _ _ _ (eval-well scope value env (pay 1 m) l n h) (λ t k e nk own. well_end Fine (threw (thrown t)) k nk tt)
     eval-well scope (term.member of name) env m l n h =
         well_then _ _ _ _ _ (eval-well scope of env (pay 1 m) l n h)
-          (λ t k e nk own. well_option Fine type_digest (property_in cx.over (known cx k) name t) k nk (λ u is. property_fine k.made nk name t u is))
+        (λ t k e nk own. well_option Fine type_digest (property_in cx.over (known cx k) name t) k nk (λ u is. property_fine k.made nk name t u is))
     eval-well scope (term.index of at_one) env m l n h =
         well_then _ _ _ _ _ (eval-well scope of env (pay 1 m) l.0 n h)
-          (λ t k e nk own. well_then _ _ _ _ _ (eval-well scope at_one env k l.1 nk (all_fine_more m.made k.made e env h)) (λ i j f nj oj. well_index t i j nj))
+        (λ t k e nk own. well_then _ _ _ _ _ (eval-well scope at_one env k l.1 nk (all_fine_more m.made k.made e env h)) (λ i j f nj oj. well_index t i j nj))
     eval-well scope (term.atom a) env m l n h = well_end Fine (gave (tree.Atom a)) (pay 1 m) n (literal_valid a l)
     eval-well scope (term.variable number) env m l n h = well_end Fine (gave (unwrap_or (slice_get env number) undefined)) (pay 1 m) n (variable_fine m.made env number h)
     eval-well scope (term.client number) env m l n h = well_end Fine (gave (tree.Atom (atom.Import (import_at cx.over number)))) (pay 1 m) n tt
@@ -424,79 +431,80 @@ module _ (cx : Context) (valid : IsValidGround cx.over) (back : TablesLeadBack [
     eval-well scope (term.set items) env m l n h = well_then _ _ _ _ _ (all-well scope items env [] (pay 1 m) l n h tt) (λ ts k e nk own. well_node kind.Set ts k nk own tt)
     eval-well scope (term.source name) env m l n h =
         well_then (λ made s. Unit {0}) Fine m.made (give_or_fail type_digest (source_named cx.over name) (pay 1 m)) (λ s k. ends (source_end cx.over cx.settled s) k)
-          (well_option (λ made s. Unit {0}) type_digest (source_named cx.over name) (pay 1 m) n (λ s is. tt))
-          (λ s k e nk own. well_end Fine (source_end cx.over cx.settled s) k nk (source_is-named cx.over valid (with_made k.made) (is_settled cx.settled s) s (slice_get (outcomes cx.over) s) refl))
+        (well_option (λ made s. Unit {0}) type_digest (source_named cx.over name) (pay 1 m) n (λ s is. tt))
+        (λ s k e nk own. well_end Fine (source_end cx.over cx.settled s) k nk (source_is-named cx.over valid (with_made k.made) (is_settled cx.settled s) s (slice_get (outcomes cx.over) s) refl))
     eval-well scope (term.promise name) env m l n h =
         well_then (λ made s. s < length cx.over.script.sources) Fine m.made (give_or_fail type_digest (source_named cx.over name) (pay 1 m)) (λ s k. give (tree.Promise s) k)
-          (well_option (λ made s. s < length cx.over.script.sources) type_digest (source_named cx.over name) (pay 1 m) n (λ s is. position_within (λ d. bytes_eq name d.name) cx.over.script.sources s is))
-          (λ s k e nk own. well_end Fine (gave (tree.Promise s)) k nk own)
+        (well_option (λ made s. s < length cx.over.script.sources) type_digest (source_named cx.over name) (pay 1 m) n (λ s is. position_within (λ d. bytes_eq name d.name) cx.over.script.sources s is))
+        (λ s k e nk own. well_end Fine (gave (tree.Promise s)) k nk own)
     eval-well scope (term.stream name) env m l n h =
         well_then (λ made s. s < length cx.over.script.streams) Fine m.made (give_or_fail type_digest (stream_named cx.over name) (pay 1 m)) (λ s k. give (tree.Stream s) k)
-          (well_option (λ made s. s < length cx.over.script.streams) type_digest (stream_named cx.over name) (pay 1 m) n (λ s is. position_within (λ d. bytes_eq name d.name) cx.over.script.streams s is))
-          (λ s k e nk own. well_end Fine (gave (tree.Stream s)) k nk own)
+        (well_option (λ made s. s < length cx.over.script.streams) type_digest (stream_named cx.over name) (pay 1 m) n (λ s is. position_within (λ d. bytes_eq name d.name) cx.over.script.streams s is))
+        (λ s k e nk own. well_end Fine (gave (tree.Stream s)) k nk own)
     eval-well scope (term.action number) env m l n h = well_end Fine (gave (tree.Action number)) (pay 1 m) n l
     eval-well scope (term.action_with number bound) env m l n h = well_then _ _ _ _ _ (all-well scope bound env [] (pay 1 m) l.1 n h tt) (λ ts k e nk own. well_bound number ts k l.0 nk own)
     eval-well scope (term.paren inside) env m l n h = eval-well scope inside env m l n h
     eval-well scope (term.binary op.And left right) env m l n h =
         well_then _ _ _ _ _ (eval-well scope left env (pay 1 m) l.0 n h)
-          (λ t k e nk own. well_branch t (eval cx right env) (give t) k nk (eval-well scope right env k l.1 nk (all_fine_more m.made k.made e env h)) (well_end Fine (gave t) k nk own))
+        (λ t k e nk own. well_branch t (eval cx right env) (give t) k nk (eval-well scope right env k l.1 nk (all_fine_more m.made k.made e env h)) (well_end Fine (gave t) k nk own))
     eval-well scope (term.binary op.Or left right) env m l n h =
         well_then _ _ _ _ _ (eval-well scope left env (pay 1 m) l.0 n h)
-          (λ t k e nk own. well_branch t (give t) (eval cx right env) k nk (well_end Fine (gave t) k nk own) (eval-well scope right env k l.1 nk (all_fine_more m.made k.made e env h)))
+        (λ t k e nk own. well_branch t (give t) (eval cx right env) k nk (well_end Fine (gave t) k nk own) (eval-well scope right env k l.1 nk (all_fine_more m.made k.made e env h)))
     eval-well scope (term.binary op.Plus left right) env m l n h =
         well_then _ _ _ _ _ (eval-well scope left env (pay 1 m) l.0 n h)
-          (λ x k e nk own. well_then _ _ _ _ _ (eval-well scope right env k l.1 nk (all_fine_more m.made k.made e env h)) (λ y i f ni oi. well_atom (operated op.Plus x y) i ni (valid_operated op.Plus x y)))
+        (λ x k e nk own. well_then _ _ _ _ _ (eval-well scope right env k l.1 nk (all_fine_more m.made k.made e env h)) (λ y i f ni oi. well_atom (operated op.Plus x y) i ni (valid_operated op.Plus x y)))
     eval-well scope (term.binary op.Minus left right) env m l n h =
         well_then _ _ _ _ _ (eval-well scope left env (pay 1 m) l.0 n h)
-          (λ x k e nk own. well_then _ _ _ _ _ (eval-well scope right env k l.1 nk (all_fine_more m.made k.made e env h)) (λ y i f ni oi. well_atom (operated op.Minus x y) i ni (valid_operated op.Minus x y)))
+        (λ x k e nk own. well_then _ _ _ _ _ (eval-well scope right env k l.1 nk (all_fine_more m.made k.made e env h)) (λ y i f ni oi. well_atom (operated op.Minus x y) i ni (valid_operated op.Minus x y)))
     eval-well scope (term.binary op.Times left right) env m l n h =
         well_then _ _ _ _ _ (eval-well scope left env (pay 1 m) l.0 n h)
-          (λ x k e nk own. well_then _ _ _ _ _ (eval-well scope right env k l.1 nk (all_fine_more m.made k.made e env h)) (λ y i f ni oi. well_atom (operated op.Times x y) i ni (valid_operated op.Times x y)))
+        (λ x k e nk own. well_then _ _ _ _ _ (eval-well scope right env k l.1 nk (all_fine_more m.made k.made e env h)) (λ y i f ni oi. well_atom (operated op.Times x y) i ni (valid_operated op.Times x y)))
     eval-well scope (term.binary op.Equal left right) env m l n h =
         well_then _ _ _ _ _ (eval-well scope left env (pay 1 m) l.0 n h)
-          (λ x k e nk own. well_then _ _ _ _ _ (eval-well scope right env k l.1 nk (all_fine_more m.made k.made e env h)) (λ y i f ni oi. well_atom (operated op.Equal x y) i ni (valid_operated op.Equal x y)))
+        (λ x k e nk own. well_then _ _ _ _ _ (eval-well scope right env k l.1 nk (all_fine_more m.made k.made e env h)) (λ y i f ni oi. well_atom (operated op.Equal x y) i ni (valid_operated op.Equal x y)))
     eval-well scope (term.binary op.Less left right) env m l n h =
         well_then _ _ _ _ _ (eval-well scope left env (pay 1 m) l.0 n h)
-          (λ x k e nk own. well_then _ _ _ _ _ (eval-well scope right env k l.1 nk (all_fine_more m.made k.made e env h)) (λ y i f ni oi. well_atom (operated op.Less x y) i ni (valid_operated op.Less x y)))
+        (λ x k e nk own. well_then _ _ _ _ _ (eval-well scope right env k l.1 nk (all_fine_more m.made k.made e env h)) (λ y i f ni oi. well_atom (operated op.Less x y) i ni (valid_operated op.Less x y)))
     eval-well scope (term.element t attrs term.no_terms) env m l n h =
         well_then (AttrsDistinct []) Fine m.made (eval_attrs cx attrs env (record { key = tree.Atom atom.Null; props = [] }) (pay 1 m)) (λ more k. make_element cx t more k)
-          (attrs-well scope attrs env [] (record { key = tree.Atom atom.Null; props = [] }) (pay 1 m) l.3 n h (tt, tt, tt, subst NoneTwice (sym (append-nil (names_of attrs))) l.1))
-          (λ more k e nk own. well_element t more k l.0 nk own)
+        (attrs-well scope attrs env [] (record { key = tree.Atom atom.Null; props = [] }) (pay 1 m) l.3 n h (tt, tt, tt, subst NoneTwice (sym (append-nil (names_of attrs))) l.1))
+        (λ more k e nk own. well_element t more k l.0 nk own)
     eval-well scope (term.element t attrs (term.term_and first others)) env m l n h =
         well_then (AttrsDistinct (codes "children" ∷ [])) Fine m.made (eval_attrs cx attrs env (record { key = tree.Atom atom.Null; props = [] }) (pay 1 m)) _
-          (attrs-well scope attrs env (codes "children" ∷ []) (record { key = tree.Atom atom.Null; props = [] }) (pay 1 m) l.3 n h (tt, tt, tt, twice_last (codes "children") (names_of attrs) l.1 l.2))
-          (λ more k e nk own. well_then AllFine Fine k.made (eval_all cx (term.term_and first others) env [] k) _ (all-well scope (term.term_and first others) env [] k l.4 nk (all_fine_more m.made k.made e env h) tt)
-            (λ inside i f ni oi. well_then (AttrsDistinct []) Fine i.made (with_children cx more inside i) (make_element cx t) (well_children more inside i ni (attrs_more (codes "children" ∷ []) k.made i.made f more own) oi)
-              (λ x j g nj oj. well_element t x j l.0 nj oj)))
+        (attrs-well scope attrs env (codes "children" ∷ []) (record { key = tree.Atom atom.Null; props = [] }) (pay 1 m) l.3 n h (tt, tt, tt, twice_last (codes "children") (names_of attrs) l.1 l.2))
+        (λ more k e nk own. well_then AllFine Fine k.made (eval_all cx (term.term_and first others) env [] k) _ (all-well scope (term.term_and first others) env [] k l.4 nk (all_fine_more m.made k.made e env h) tt)
+        (λ inside i f ni oi. well_then (AttrsDistinct []) Fine i.made (with_children cx more inside i) (make_element cx t) (well_children more inside i ni (attrs_more (codes "children" ∷ []) k.made i.made f more own) oi)
+        (λ x j g nj oj. well_element t x j l.0 nj oj)))
 
     all-well : (scope : ℕ) (ts : Terms) (env so_far : List Tree) (m : Machine) → AreLawful cx.over scope ts → Nodes m.made → AllFine m.made env → AllFine m.made so_far → Well AllFine m.made (eval_all cx ts env so_far m)
     all-well scope term.no_terms env so_far m l n h k = well_end AllFine (gave so_far) m n k
     all-well scope (term.term_and t rest) env so_far m l n h k =
         well_then _ _ _ _ _ (eval-well scope t env m l.0 n h)
-          (λ v i e ni own. all-well scope rest env (so_far ++ v ∷ []) i l.1 ni (all_fine_more m.made i.made e env h) (each_append (Fine i.made) so_far (v ∷ []) (all_fine_more m.made i.made e so_far k) (own, tt)))
+        (λ v i e ni own. all-well scope rest env (so_far ++ v ∷ []) i l.1 ni (all_fine_more m.made i.made e env h) (each_append (Fine i.made) so_far (v ∷ []) (all_fine_more m.made i.made e so_far k) (own, tt)))
 
     props-well : (scope : ℕ) (ts : Props) (env : List Tree) (so_far : List (List ℕ × Tree)) (m : Machine) → PropsLawful cx.over scope ts → Nodes m.made → AllFine m.made env → PropsFine m.made so_far → NoneTwice (names_in so_far ++ names_of ts)
         → Well PropsDistinct m.made (eval_props cx ts env so_far m)
     props-well scope term.no_props env so_far m l n h k d = well_end PropsDistinct (gave so_far) m n (k, subst NoneTwice (append-nil (names_in so_far)) d)
     props-well scope (term.prop_and name t rest) env so_far m l n h k d =
         well_then Fine PropsDistinct m.made (eval cx t env m) (λ v i. eval_props cx rest env (so_far ++ (name, v) ∷ []) i) (eval-well scope t env m l.0 n h)
-          (λ v i e ni own. props-well scope rest env (so_far ++ (name, v) ∷ []) i l.1 ni (all_fine_more m.made i.made e env h)
-            (each_append (λ p. Fine i.made p.1) so_far ((name, v) ∷ []) (props_more m.made i.made e so_far k) (own, tt)) (names_next so_far (name, v) (names_of rest) d))
+        (λ v i e ni own. props-well scope rest env (so_far ++ (name, v) ∷ []) i l.1 ni (all_fine_more m.made i.made e env h)
+        (each_append (λ p. Fine i.made p.1) so_far ((name, v) ∷ []) (props_more m.made i.made e so_far k) (own, tt)) (names_next so_far (name, v) (names_of rest) d))
 
     pairs-well : (scope : ℕ) (ts : Pairs) (env so_far : List Tree) (m : Machine) → PairsLawful cx.over scope ts → Nodes m.made → AllFine m.made env → PairsFine m.made so_far → Well PairsFine m.made (eval_pairs cx ts env so_far m)
     pairs-well scope term.no_pairs env so_far m l n h k = well_end PairsFine (gave so_far) m n k
     pairs-well scope (term.pair_and key value rest) env so_far m l n h k =
         well_then _ _ _ _ _ (eval-well scope key env m l.0 n h)
-          (λ x i e ni own. well_then Fine PairsFine i.made (eval cx value env i) (λ v j. eval_pairs cx rest env (so_far ++ x ∷ v ∷ []) j) (eval-well scope value env i l.1 ni (all_fine_more m.made i.made e env h))
-            (λ v j f nj oj. pairs-well scope rest env (so_far ++ x ∷ v ∷ []) j l.2 nj (all_fine_more m.made j.made (extends_trans m.made i.made j.made e f) env h)
-              (each_append (Fine j.made) so_far (x ∷ v ∷ []) (all_fine_more m.made j.made (extends_trans m.made i.made j.made e f) so_far k.0) (fine_more i.made j.made f x own, (oj, tt)),
-                (suc k.1.0, half_more k.1.0 so_far x v k.1.1))))
+        (λ x i e ni own. well_then Fine PairsFine i.made (eval cx value env i) (λ v j. eval_pairs cx rest env (so_far ++ x ∷ v ∷ []) j) (eval-well scope value env i l.1 ni (all_fine_more m.made i.made e env h))
+        (λ v j f nj oj. pairs-well scope rest env (so_far ++ x ∷ v ∷ []) j l.2 nj (all_fine_more m.made j.made (extends_trans m.made i.made j.made e f) env h) (
+          each_append (Fine j.made) so_far (x ∷ v ∷ []) (all_fine_more m.made j.made (extends_trans m.made i.made j.made e f) so_far k.0) (fine_more i.made j.made f x own, (oj, tt)),
+          (suc k.1.0, half_more k.1.0 so_far x v k.1.1),
+        )))
 
     attrs-well : (scope : ℕ) (ts : Props) (env : List Tree) (tail : List (List ℕ)) (so_far : Attributes) (m : Machine) → PropsLawful cx.over scope ts → Nodes m.made → AllFine m.made env → AttrsDistinct (names_of ts ++ tail) m.made so_far
         → Well (AttrsDistinct tail) m.made (eval_attrs cx ts env so_far m)
     attrs-well scope term.no_props env tail so_far m l n h k = well_end (AttrsDistinct tail) (gave so_far) m n k
     attrs-well scope (term.prop_and name t rest) env tail so_far m l n h k =
         well_then Fine (AttrsDistinct tail) m.made (eval cx t env m) (λ v i. and_then (with_attribute so_far name v i) (λ more j. eval_attrs cx rest env more j)) (eval-well scope t env m l.0 n h)
-          (λ v i e ni own. well_then (AttrsDistinct (names_of rest ++ tail)) (AttrsDistinct tail) i.made (with_attribute so_far name v i) (λ more j. eval_attrs cx rest env more j)
-            (well_attribute (names_of rest ++ tail) so_far name v i ni (attrs_more (name ∷ (names_of rest ++ tail)) m.made i.made e so_far k) own)
-            (λ more j f nj oj. attrs-well scope rest env tail more j l.1 nj (all_fine_more m.made j.made (extends_trans m.made i.made j.made e f) env h) oj))
+        (λ v i e ni own. well_then (AttrsDistinct (names_of rest ++ tail)) (AttrsDistinct tail) i.made (with_attribute so_far name v i) (λ more j. eval_attrs cx rest env more j)
+        (well_attribute (names_of rest ++ tail) so_far name v i ni (attrs_more (name ∷ (names_of rest ++ tail)) m.made i.made e so_far k) own)
+        (λ more j f nj oj. attrs-well scope rest env tail more j l.1 nj (all_fine_more m.made j.made (extends_trans m.made i.made j.made e f) env h) oj))

@@ -5,7 +5,7 @@ use Rattle.flight_value.specs.declared.made.Made.{Made}
 use Rattle.flight_value.specs.declared.made.Tree.{Tree}
 use Rattle.flight_value.specs.declared.name.Name.{Name}
 use Rattle.flight_render.specs.declared.root.Ground.{Ground}
-use Rattle.flight_render.specs.Run.{Step, gave, threw, waits, Run, End}
+use Rattle.flight_render.specs.Run.{waits, Run, End}
 use Rattle.flight_render.specs.Body.{body, root_body}
 
 -- the address at which a server element of a name renders
@@ -50,7 +50,7 @@ abbrev pub body_below : Ground → List Bool → List (List Made) → List ℕ �
 body_below g settled tables address here [] = here
 body_below g settled tables address here (serial ∷ rest) =
     body_below g settled (tables_with tables (finished here)) (address ++ serial ∷ [])
-      (next_body g settled (tables_with tables (finished here)) (address ++ serial ∷ []) (element_of (made_by (finished here) serial))) rest
+    (next_body g settled (tables_with tables (finished here)) (address ++ serial ∷ []) (element_of (made_by (finished here) serial))) rest
 
 -- the body at an address: nothing is below a body that waits
 unfoldable pub body_at : Ground → List Bool → List ℕ → Option (Run Tree)
@@ -65,7 +65,7 @@ abbrev pub tables_below : Ground → List Bool → List (List Made) → List ℕ
 tables_below g settled tables address here [] = tables
 tables_below g settled tables address here (serial ∷ rest) =
     tables_below g settled (tables_with tables (finished here)) (address ++ serial ∷ [])
-      (next_body g settled (tables_with tables (finished here)) (address ++ serial ∷ []) (element_of (made_by (finished here) serial))) rest
+    (next_body g settled (tables_with tables (finished here)) (address ++ serial ∷ []) (element_of (made_by (finished here) serial))) rest
 
 unfoldable pub tables_at : Ground → List Bool → List ℕ → List (List Made)
 tables_at g settled address = tables_below g settled [] [] (Some (root_body g settled)) address

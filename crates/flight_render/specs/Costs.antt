@@ -7,9 +7,9 @@ use Rattle.flight_value.specs.declared.key.Key.TheVariants as key
 use Rattle.flight_value.specs.declared.made.Tree.{Tree}
 use Rattle.flight_syntax.specs.declared.script.Flowing.{Flowing}
 use Rattle.flight_render.specs.declared.root.Ground.{Ground}
-use Rattle.flight_render.specs.Run.{Step, gave, threw, waits, Run, End}
+use Rattle.flight_render.specs.Run.{gave, waits, Run, End}
 use Rattle.flight_render.specs.Bodies.{inner, body_at, Finishes}
-use Rattle.flight_render.specs.Jobs.{Job, the_root, element, outcome, known, blank, Value, of_job, stopped, job_of, job_body, comes, value_of, IsTarget}
+use Rattle.flight_render.specs.Jobs.{Job, the_root, element, outcome, Value, of_job, stopped, job_of, job_body, comes, value_of, IsTarget}
 use Rattle.flight_render.specs.Plain.{NodeIs, last_job}
 
 abbrev pub In : {A : Type 0} → A → List A → Type 0

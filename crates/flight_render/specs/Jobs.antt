@@ -1,5 +1,5 @@
 -- What is rendered or waited for on its own, and what a slot stands for.
-use Rattle.std.specs.Prelude.{ℕ, ◌≡◌, Bool, true, false, if◌then◌else◌, List, [], ◌∷◌, length, Option, Some, None, is_some, option_map}
+use Rattle.std.specs.Prelude.{ℕ, ◌≡◌, Bool, if◌then◌else◌, List, [], ◌∷◌, length, Option, Some, None, is_some, option_map}
 use Rattle.flight_value.specs.Store.{Target}
 use Rattle.flight_value.specs.Store as target
 use Rattle.flight_value.specs.declared.graph.Atom.TheVariants as atom
@@ -12,7 +12,7 @@ use Rattle.flight_value.specs.declared.made.Tree.TheVariants as tree
 use Rattle.flight_value.specs.declared.name.Name.{Name}
 use Rattle.flight_syntax.specs.declared.script.Outcome.{Outcome}
 use Rattle.flight_render.specs.declared.root.Ground.{Ground}
-use Rattle.flight_render.specs.Run.{Step, gave, threw, waits, Run, End}
+use Rattle.flight_render.specs.Run.{gave, threw, waits, Run, End}
 use Rattle.flight_render.specs.Values.{arguments, tree_of, source_end, undefined}
 use Rattle.flight_render.specs.Bodies.{inner, element_of, body_at, node_at}
 

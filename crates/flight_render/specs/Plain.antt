@@ -1,10 +1,9 @@
 -- Sequential rendering as a store of nodes: no walk, no order, no tasks and no rows.
-use Rattle.std.specs.Prelude.{ℕ, ◌≡◌, Bool, List, [], ◌∷◌, ◌++◌, map, length, Option, Some, None, slice_get, option_map, option_and_then}
+use Rattle.std.specs.Prelude.{ℕ, ◌≡◌, Bool, List, [], ◌∷◌, ◌++◌, map, Option, Some, None, slice_get, option_map, option_and_then}
 use Rattle.flight_value.specs.Graph.{slots_of}
 use Rattle.flight_value.specs.Store as store
 use Rattle.flight_value.specs.Store.{Store, Shape, Label, FlowState, label_of}
 use Rattle.flight_value.specs.declared.graph.Atom.TheVariants as atom
-use Rattle.flight_value.specs.declared.graph.Slot.{Slot}
 use Rattle.flight_value.specs.declared.graph.Node.{Node}
 use Rattle.flight_value.specs.declared.graph.Node.TheVariants as node
 use Rattle.flight_value.specs.declared.key.Key.{Key}
@@ -12,15 +11,13 @@ use Rattle.flight_value.specs.declared.key.Key.TheVariants as key
 use Rattle.flight_value.specs.declared.made.MadeKind.{MadeKind}
 use Rattle.flight_value.specs.declared.made.MadeKind.TheVariants as kind
 use Rattle.flight_value.specs.declared.made.Made.{Made}
-use Rattle.flight_value.specs.declared.made.Tree.{Tree}
 use Rattle.flight_value.specs.declared.made.Tree.TheVariants as tree
-use Rattle.flight_value.specs.declared.name.Name.{Name}
 use Rattle.flight_syntax.specs.declared.program.Declared.{Declared}
 use Rattle.flight_syntax.specs.declared.program.Declared.TheVariants as declared
 use Rattle.flight_syntax.specs.declared.script.Outcome.{Outcome}
 use Rattle.flight_syntax.specs.declared.script.Flowing.{Flowing}
 use Rattle.flight_render.specs.declared.root.Ground.{Ground}
-use Rattle.flight_render.specs.Run.{Step, gave, threw, waits, End}
+use Rattle.flight_render.specs.Run.{gave, threw, End}
 use Rattle.flight_render.specs.Values.{outcomes, tree_of, node_in}
 use Rattle.flight_render.specs.Bodies.{node_at}
 use Rattle.flight_render.specs.Jobs.{Job, the_root, outcome, known, blank, Value, shown, of_job, comes, Stands}

@@ -1,5 +1,5 @@
 -- Which grounds are valid, which nodes a body makes, and which jobs belong to a ground.
-use Rattle.std.specs.Prelude.{ℕ, suc, ◌+◌, ◌-◌, ◌^◌, ◌≡◌, ◌≢◌, ◌<◌, ◌≤ℤ◌, ℤ, pos, negsuc, Bool, true, List, [], ◌∷◌, ◌++◌, map, length, Option, Some, slice_get, All, codes, is_some}
+use Rattle.std.specs.Prelude.{ℕ, suc, ◌+◌, ◌-◌, ◌^◌, ◌≡◌, ◌≢◌, ◌<◌, ◌≤ℤ◌, pos, negsuc, Bool, true, List, [], ◌∷◌, ◌++◌, length, Some, slice_get, All, codes, is_some}
 use Rattle.std.specs.List.{AllByRecursion}
 use Rattle.flight_value.specs.Date.{IsDate}
 use Rattle.flight_value.specs.Graph.{IsSafe, IsValid, IsValidAtom, IsValidSlot, Ascend, slots_of}
@@ -32,7 +32,7 @@ use Rattle.flight_render.specs.declared.root.Root.TheVariants as root
 use Rattle.flight_render.specs.declared.job.What.{What}
 use Rattle.flight_render.specs.declared.job.What.TheVariants as what
 use Rattle.flight_render.specs.declared.job.Job.{Job}
-use Rattle.flight_render.specs.Run.{Step, gave, Run}
+use Rattle.flight_render.specs.Run.{gave, Run}
 use Rattle.flight_render.specs.Values.{outcomes, outcome_nodes, source_named, stream_named, made_in}
 use Rattle.flight_render.specs.Bodies.{inner, element_of, node_at}
 use Rattle.flight_render.specs.Jobs.{Value, shown, of_job, known, argument_in}

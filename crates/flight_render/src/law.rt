@@ -1,16 +1,22 @@
-ghost use Rattle.std.specs.Prelude.{◌≡◌, ◌≤◌, ◌<◌, ℕ, Bool, List, [], ◌∷◌, ◌++◌, Option, Some, None};
-ghost use Rattle.flight_value.specs.Store.{Target, Shape};
+ghost use Rattle.std.specs.Prelude.{◌≡◌, ◌≤◌, ◌<◌, ℕ, Bool, false, List, [], ◌∷◌, ◌++◌, Option, Some, None};
+ghost use Rattle.std.specs.List.{AllByRecursion};
+ghost use Rattle.flight_value.specs.Store.{Target, Shape, atom as target, node_at as node_at_key};
+ghost use Rattle.flight_value.specs.declared.graph.Atom.TheVariants.{Pending};
 ghost use Rattle.flight_value.specs.declared.key.Key.{Key};
 ghost use Rattle.flight_value.specs.declared.made.Made.{Made};
 ghost use Rattle.flight_value.specs.declared.made.Tree.{Tree};
 ghost use Rattle.flight_value.specs.declared.name.Name.{Name};
+ghost use Rattle.flight_syntax.specs.Term.{Term};
 ghost use Rattle.flight_render.specs.declared.root.Ground.{Ground};
-ghost use Rattle.flight_render.specs.Run.{Run, End};
+ghost use Rattle.flight_render.specs.Run.{Run, End, Machine};
+ghost use Rattle.flight_render.specs.Values.{is_settled, made_in};
+ghost use Rattle.flight_render.specs.Eval.{Context, eval};
 ghost use Rattle.flight_render.specs.Body.{body, root_body};
-ghost use Rattle.flight_render.specs.Bodies.{inner, element_of, next_body, body_at, node_at, tables_for, TabledFor};
-ghost use Rattle.flight_render.specs.Jobs.{Job, element, Value, IsFinal, job_of, comes, value_of, Leads, Stands};
+ghost use Rattle.flight_render.specs.Bodies.{inner, element_of, next_body, body_at, node_at, tables_at, tables_for, TabledFor};
+ghost use Rattle.flight_render.specs.Jobs.{Job, element, Value, IsFinal, job_of, comes, value_of, Leads, IsTarget, Stands};
 ghost use Rattle.flight_render.specs.Plain.{NodeIs};
-ghost use Rattle.flight_render.specs.Costs.{In, Reached, Rendered, Total, TotalOver};
+ghost use Rattle.flight_render.specs.Costs.{In, Reached, Stops, Rendered, Total, TotalOver};
+ghost use Rattle.flight_render.specs.Valid.{IsValidGround, MadeWell, AreTables, BodyMade, IsKnown, ShowsKnown};
 ghost use Rattle.flight_render.specs.Laws.{Grows, Stays, Own, LeadBack, TablesLeadBack, NamesBack, IsLasting};
 
 /// A body that finishes, or that waits for a source which still is not settled, is the same with more sources
@@ -18,8 +24,7 @@ ghost use Rattle.flight_render.specs.Laws.{Grows, Stays, Own, LeadBack, TablesLe
 pub fn larger_bodies()
     ensures component { (g : Ground) (few many : List Bool) → Grows few many → (tables : List (List Made)) (number : ℕ) (props : Tree) (address : List ℕ) → Stays many (body g few tables number props address).step → body g many tables number props address ≡ body g few tables number props address }
     ensures first { (g : Ground) (few many : List Bool) → Grows few many → Stays many (root_body g few).step → root_body g many ≡ root_body g few }
-{
-}
+{}
 
 /// Rendering only gains with more sources settled.
 pub fn larger_rendering()
@@ -33,9 +38,10 @@ pub fn larger_rendering()
     ensures slots { (g : Ground) (few many : List Bool) → Grows few many → (k : Key) (shape : Shape Value) (v : Value) → NodeIs g few k shape → In v shape.slots → (after : Shape Value) × (NodeIs g many k after) × In v after.slots }
     ensures reached { (g : Ground) (few many : List Bool) → Grows few many → (v : Value) → Reached g few v → IsFinal v → Reached g many v }
     ensures rendered { (g : Ground) (few many : List Bool) → Grows few many → (address : List ℕ) (cost : ℕ) → Rendered g few address cost → Rendered g many address cost }
+    ensures stands { (g : Ground) → IsValidGround g → (few many : List Bool) → Grows few many → (v : Value) → Reached g few v → (t : Target Key) → Stands g few v t → (t ≡ target Pending → ⊥) → Stands g many v t }
+    ensures stops { (g : Ground) (few many : List Bool) → Grows few many → (source : ℕ) → is_settled many source ≡ false → Stops g few source → Stops g many source }
     ensures total { (g : Ground) (few many : List Bool) → Grows few many → (less more : ℕ) → Total g few less → Total g many more → less ≤ more }
-{
-}
+{}
 
 /// A body names only its own lesser nodes, and nodes that were made at proper prefixes of its address before
 /// the item that follows there.
@@ -43,16 +49,14 @@ pub fn names_lead_back()
     ensures rendered { (g : Ground) (settled : List Bool) (address : List ℕ) (b : Run Tree) → body_at g settled address ≡ Some b → NamesBack address b }
     ensures component { (g : Ground) (settled : List Bool) (address : List ℕ) (serial : ℕ) (tables : List (List Made)) (made : List Made) → TablesLeadBack [] address tables → LeadBack address 0 made → (number : ℕ) (props : Tree) → Own address serial props → NamesBack (address ++ serial ∷ []) (body g settled (tables ++ made ∷ []) number props (address ++ serial ∷ [])) }
     ensures first { (g : Ground) (settled : List Bool) → NamesBack [] (root_body g settled) }
-{
-}
+{}
 
 /// The body of a server element is that of its component, with the tables of what the bodies on the way to it
 /// made. What an attempt with these tables finds under fewer settled sources, its job comes to.
 pub fn attempts()
     ensures same { (g : Ground) (settled : List Bool) (n : Name) → body_at g settled (inner n) ≡ next_body g settled (tables_for g settled n) (inner n) (element_of (node_at g settled n)) }
     ensures gives { (g : Ground) (few many : List Bool) → Grows few many → (n : Name) (tables : List (List Made)) (b : Run Tree) → TabledFor g many n tables → next_body g few tables (inner n) (element_of (node_at g many n)) ≡ Some b → Stays many b.step → comes g many (element n) ≡ Some b.step }
-{
-}
+{}
 
 /// A chain never comes back to a job, and ends. What is reached stands for one slot.
 pub fn chains()
@@ -60,12 +64,25 @@ pub fn chains()
     ensures ends { (g : Ground) (settled : List Bool) (v : Value) → Reached g settled v → (t : Target Key) × Stands g settled v t }
     ensures one { (g : Ground) (settled : List Bool) (v : Value) (t u : Target Key) → Stands g settled v t → Stands g settled v u → t ≡ u }
     ensures node { (g : Ground) (settled : List Bool) (k : Key) (shape other : Shape Value) → NodeIs g settled k shape → NodeIs g settled k other → shape ≡ other }
-{
-}
+{}
 
 /// A total is one number. Bodies whose costs exceed the fuel together take it over the fuel.
 pub fn totals()
     ensures one { (g : Ground) (settled : List Bool) (total other : ℕ) → Total g settled total → Total g settled other → total ≡ other }
     ensures over { (g : Ground) (settled : List Bool) (total fuel : ℕ) → Total g settled total → TotalOver g settled fuel → fuel < total }
-{
-}
+{}
+
+/// Over a valid ground the nodes that bodies make are made well, what is reached is there, and every node that
+/// a value leads to has its shape.
+pub fn made_well()
+    ensures bodies { (g : Ground) → IsValidGround g → (settled : List Bool) (address : List ℕ) (b : Run Tree) → body_at g settled address ≡ Some b → BodyMade g (tables_at g settled address) b }
+    ensures nodes { (g : Ground) → IsValidGround g → (settled : List Bool) (n : Name) (m : Made) → node_at g settled n ≡ Some m → AllByRecursion (IsKnown g settled) m.slots × ((tables : List (List Made)) × MadeWell g tables m.kind m.slots) }
+    ensures tables { (g : Ground) → IsValidGround g → (settled : List Bool) (n : Name) (tables : List (List Made)) → TabledFor g settled n tables → AreTables g (inner n) tables × (made_in tables n ≡ node_at g settled n) }
+    ensures reached { (g : Ground) → IsValidGround g → (settled : List Bool) (v : Value) → Reached g settled v → ShowsKnown g settled v }
+    ensures closed { (g : Ground) → IsValidGround g → (settled : List Bool) (v : Value) → Reached g settled v → job_of g settled v ≡ None → (k : Key) → IsTarget g settled v (node_at_key k) → (shape : Shape Value) × NodeIs g settled k shape }
+{}
+
+/// Evaluation never lowers the cost.
+pub fn charges()
+    ensures { (cx : Context) (t : Term) (env : List Tree) (m : Machine) → m.cost ≤ (eval cx t env m).after.cost }
+{}

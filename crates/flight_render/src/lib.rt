@@ -12,5 +12,7 @@ mod law;
 mod root;
 
 pub use job::{Job, What};
-pub use law::{attempts, chains, larger_bodies, larger_rendering, names_lead_back, totals};
+pub use law::{
+    attempts, chains, charges, larger_bodies, larger_rendering, made_well, names_lead_back, totals,
+};
 pub use root::{Ground, Root};

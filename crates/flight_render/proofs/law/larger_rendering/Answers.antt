@@ -1,4 +1,5 @@
-use Rattle.flight_render.proofs.Larger.{body_at-keeps, node_at-keeps, tabled-keeps, job_of-keeps, comes-keeps, leads-keeps, node-keeps, slot-keeps, reached-keeps, rendered-keeps}
+use Rattle.flight_render.proofs.Larger.{body_at-keeps, node_at-keeps, tabled-keeps, job_of-keeps, comes-keeps, leads-keeps, node-keeps, slot-keeps, reached-keeps, rendered-keeps, stops-keeps}
+use Rattle.flight_render.proofs.Closed.{stands-keeps}
 use Rattle.flight_render.proofs.Sums.{total-grows}
 use Rattle.flight_render.proofs.law.larger_rendering.Goals as goal
 
@@ -10,9 +11,11 @@ returns c = record {
   jobs = job_of-keeps;
   ends = comes-keeps;
   chains = leads-keeps;
-  shapes = λ g few many gr k shape lasting is. node-keeps g few many gr k shape lasting is;
+  shapes = node-keeps;
   slots = slot-keeps;
   reached = reached-keeps;
   rendered = rendered-keeps;
+  stands = stands-keeps;
+  stops = stops-keeps;
   total = total-grows;
 }
