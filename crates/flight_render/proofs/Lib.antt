@@ -11,3 +11,4 @@ pub mod Sourced
 pub mod Well
 pub mod There
 pub mod Closed
+pub mod Idle

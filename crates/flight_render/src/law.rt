@@ -1,4 +1,4 @@
-ghost use Rattle.std.specs.Prelude.{◌≡◌, ◌≤◌, ◌<◌, ℕ, Bool, false, List, [], ◌∷◌, ◌++◌, Option, Some, None};
+ghost use Rattle.std.specs.Prelude.{◌≡◌, ◌≤◌, ◌<◌, ℕ, Bool, false, List, [], ◌∷◌, ◌++◌, length, Option, Some, None};
 ghost use Rattle.std.specs.List.{AllByRecursion};
 ghost use Rattle.flight_value.specs.Store.{Target, Shape, atom as target, node_at as node_at_key};
 ghost use Rattle.flight_value.specs.declared.graph.Atom.TheVariants.{Pending};
@@ -8,7 +8,7 @@ ghost use Rattle.flight_value.specs.declared.made.Tree.{Tree};
 ghost use Rattle.flight_value.specs.declared.name.Name.{Name};
 ghost use Rattle.flight_syntax.specs.Term.{Term};
 ghost use Rattle.flight_render.specs.declared.root.Ground.{Ground};
-ghost use Rattle.flight_render.specs.Run.{Run, End, Machine};
+ghost use Rattle.flight_render.specs.Run.{Run, End, Machine, waits};
 ghost use Rattle.flight_render.specs.Values.{is_settled, made_in};
 ghost use Rattle.flight_render.specs.Eval.{Context, eval};
 ghost use Rattle.flight_render.specs.Body.{body, root_body};
@@ -86,3 +86,10 @@ pub fn made_well()
 pub fn charges()
     ensures { (cx : Context) (t : Term) (env : List Tree) (m : Machine) → m.cost ≤ (eval cx t env m).after.cost }
 {}
+
+/// A body waits only for a source of the script that is not settled.
+pub fn waits_right()
+    ensures rendered { (g : Ground) (settled : List Bool) (address : List ℕ) (b : Run Tree) (source : ℕ) → body_at g settled address ≡ Some b → b.step ≡ waits source → (is_settled settled source ≡ false) × (source < length g.script.sources) }
+    ensures component { (g : Ground) (settled : List Bool) (tables : List (List Made)) (number : ℕ) (props : Tree) (address : List ℕ) (source : ℕ) → (body g settled tables number props address).step ≡ waits source → (is_settled settled source ≡ false) × (source < length g.script.sources) }
+{
+}

@@ -14,5 +14,6 @@ mod root;
 pub use job::{Job, What};
 pub use law::{
     attempts, chains, charges, larger_bodies, larger_rendering, made_well, names_lead_back, totals,
+    waits_right,
 };
 pub use root::{Ground, Root};
