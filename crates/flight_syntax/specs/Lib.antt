@@ -1,6 +1,8 @@
 pub mod Names
 pub mod Pieces
 pub mod Scope
+pub mod Script
+pub mod Import
 pub mod Term
 pub mod Tokens
 pub mod Tree

@@ -1,0 +1,14 @@
+pub mod Examples
+pub mod Grows
+pub mod Names
+pub mod Larger
+pub mod Falling
+pub mod Reaches
+pub mod Sums
+pub mod Paid
+pub mod Ordered
+pub mod Sourced
+pub mod Well
+pub mod There
+pub mod Closed
+pub mod Idle

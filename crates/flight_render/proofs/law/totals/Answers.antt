@@ -1,0 +1,5 @@
+use Rattle.flight_render.proofs.Sums.{one_total, total-within}
+use Rattle.flight_render.proofs.law.totals.Goals as goal
+
+pub returns : goal.returns
+returns c = record { one = one_total; over = total-within }

@@ -1,0 +1,11 @@
+pub mod Run
+pub mod Values
+pub mod Operators
+pub mod Eval
+pub mod Body
+pub mod Bodies
+pub mod Jobs
+pub mod Plain
+pub mod Costs
+pub mod Laws
+pub mod Valid
