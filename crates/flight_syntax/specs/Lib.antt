@@ -8,3 +8,4 @@ pub mod Words
 pub mod Derives
 pub mod Grammar
 pub mod Literal
+pub mod Form

@@ -1,0 +1,2 @@
+//! Scripts.
+#![tactic(auto)]
