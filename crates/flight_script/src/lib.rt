@@ -1,2 +1,10 @@
 //! Scripts.
 #![tactic(auto)]
+
+mod fault;
+mod look;
+mod node;
+mod slot;
+mod unfit;
+
+pub use fault::ScriptFault;

@@ -1,0 +1,4 @@
+pub mod Views
+pub mod Built
+pub mod Marks
+pub mod Nodes
