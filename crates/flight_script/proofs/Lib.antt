@@ -2,3 +2,4 @@ pub mod Views
 pub mod Built
 pub mod Marks
 pub mod Nodes
+pub mod Passing

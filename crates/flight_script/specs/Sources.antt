@@ -1,5 +1,5 @@
 -- The sources of a script.
-use Rattle.std.specs.Prelude.{ℕ, zero, suc, ◌≡◌, ◌==◌, ◌||◌, if◌then◌else◌, Bool, List, [], ◌∷◌, ◌++◌, length, codes, Option, Some, None, option_map, option_and_then, is_some}
+use Rattle.std.specs.Prelude.{ℕ, ◌+◌, ◌≡◌, ◌==◌, ◌||◌, if◌then◌else◌, Bool, List, [], ◌∷◌, ◌++◌, length, codes, Option, Some, None, option_map, option_and_then, is_some}
 use Rattle.std.specs.List.{AllZip}
 use Rattle.serde_json.specs.Data.{Data}
 use Rattle.serde_json.specs.Find.{get, as_str}
@@ -32,7 +32,7 @@ is_source d = is_some (rejection d) || is_some (value_parts d)
 abbrev pub node_tests : List ℕ → ℕ → ℕ → List Data → List Test
 node_tests name count number [] = []
 node_tests name count number (d ∷ ds) =
-    holds (has_whole_numbers d) (Number name) ∷ a_node count d (BadNode name (Some number)) ∷ node_tests name count (suc number) ds
+    holds (has_whole_numbers d) (Number name) ∷ a_node count d (BadNode name (Some number)) ∷ node_tests name count (number + 1) ds
 
 -- of a value and its nodes: whole numbers before the form
 abbrev pub value_tests : List ℕ → Option (Data × List Data) → List Test

@@ -5,6 +5,8 @@ mod fault;
 mod look;
 mod node;
 mod slot;
+mod source;
+mod text;
 mod unfit;
 
 pub use fault::ScriptFault;
