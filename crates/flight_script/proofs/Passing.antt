@@ -1,8 +1,8 @@
 -- Tests one after another.
-use Rattle.std.proofs.Common.{◌≡◌, List, [], ◌∷◌, ◌++◌, refl, sym, ◌∙◌, ap, subst, append_assoc, append-nil, inl, inr, true, false, Bool}
-use Rattle.std.proofs.lemmas.Bool.{false≢true}
+use Rattle.std.proofs.Common.{◌≡◌, List, [], ◌∷◌, ◌++◌, refl, sym, ◌∙◌, ap, subst, append_assoc, append-nil, inl, inr}
+use Rattle.std.specs.Prelude.{Result, Ok, Err, OnOk}
 use Rattle.flight_script.specs.declared.fault.ScriptFault.{ScriptFault}
-use Rattle.flight_script.specs.Tests.{Test, holds, Passes, AllPass, IsFirstFault, Refuses}
+use Rattle.flight_script.specs.Tests.{Test, AllPass, IsFirstFault, Refuses}
 
 pub all_behind : (ts us : List Test) → AllPass ts → AllPass us → AllPass (ts ++ us)
 all_behind [] us h k = k
@@ -43,3 +43,9 @@ passed_end all p = subst AllPass (sym (p.split ∙ append-nil p.done)) p.passed
 
 pub passed_refuses : (all now rest : List Test) (e : ScriptFault) → Passed all (now ++ rest) → Refuses now e → Refuses all e
 passed_refuses all now rest e p r = subst (λ ts. Refuses ts e) (sym p.split) (refuses_behind p.done (now ++ rest) e p.passed (refuses_front now rest e r))
+
+-- ---- a fact that is known anyway
+
+pub on_ok : {A E : Type 0} (r : Result A E) (P : Type 0) → P → OnOk r P
+on_ok (Ok x) P h = h
+on_ok (Err e) P h = tt

@@ -23,6 +23,14 @@ members (member name d ms) = (name, d) ∷ members ms
 abbrev pub as_list : Data → Option (List Data)
 as_list d = option_map items (as_array d)
 
+-- the same; of what is no array, none
+abbrev pub list_of : Data → List Data
+list_of d = unwrap_or (as_list d) []
+
+-- the items of the array that is an object's member of that name, if there is one
+abbrev pub list_at : List ℕ → Data → List Data
+list_at name d = option_map_or list_of (get name d) []
+
 -- the members of an object
 abbrev pub as_members : Data → Option (List Member)
 as_members d = option_map members (as_object d)

@@ -10,10 +10,10 @@ use Rattle.flight_syntax.specs.declared.script.Script.{Script}
 use Rattle.flight_syntax.specs.Names.{is_plain_name}
 use Rattle.flight_script.specs.declared.fault.ScriptFault.{ScriptFault}
 use Rattle.flight_script.specs.declared.fault.ScriptFault.TheVariants.{BadJson, BadShape}
-use Rattle.flight_script.specs.Json.{Member, as_members, has_only}
+use Rattle.flight_script.specs.Json.{Member, list_at, as_members, has_only}
 use Rattle.flight_script.specs.Sources.{source_tests, IsSource}
-use Rattle.flight_script.specs.Streams.{stream_tests, IsNumberOf, IsStream}
-use Rattle.flight_script.specs.Settlers.{settler, settlers_in, settler_tests}
+use Rattle.flight_script.specs.Streams.{stream_tests, IsStream}
+use Rattle.flight_script.specs.Settlers.{AreSettled, settler_tests}
 use Rattle.flight_script.specs.Program.{program_tests}
 use Rattle.flight_script.specs.Tests.{Test, holds, AllPass, IsFirstFault}
 
@@ -67,7 +67,7 @@ tests (Some d) declared = script_tests d declared
 pub record IsScript (d : Data) (script : Script) : Type 0 where
   pub sources : AllZip IsSource (sources_in d) script.sources
   pub streams : AllZip (IsStream (names (sources_in d))) (streams_in d) script.streams
-  pub settlers : AllZip (λ own numbers. AllZip (IsNumberOf (names (sources_in d))) (settler own) numbers) (settlers_in d) script.settlers
+  pub settlers : AllZip (AreSettled (names (sources_in d))) (list_at (codes "settlers") d) script.settlers
 
 -- the text is the script, over the program
 pub record IsScriptOf (text : List ℕ) (declared : List Declared) (script : Script) : Type 0 where

@@ -3,7 +3,7 @@ ghost use Rattle.std.specs.List.{list_all, list_any};
 ghost use Rattle.std.specs.Str.{bytes_eq};
 ghost use Rattle.serde_json.specs.Find.{as_str};
 ghost use Rattle.serde_json.specs.View.{view};
-ghost use Rattle.flight_script.specs.Json.{as_list, as_members, member_count, only, is_among, has_only, text, are_texts};
+ghost use Rattle.flight_script.specs.Json.{as_list, list_of, list_at, as_members, member_count, only, is_among, has_only, text, are_texts};
 ghost use Rattle.flight_script.specs.Entries.{entries};
 
 use serde_json::{Map, Value};
@@ -16,6 +16,26 @@ pub fn as_list(value: &Value) -> Option<&[Value]>
     match value {
         Value::Array(items) => Some(items.as_slice()),
         _ => None,
+    }
+}
+
+/// The same; of what is no array, none.
+pub fn list_of(value: &Value) -> &[Value]
+    ensures { map view result.now ≡ list_of (view value.now) }
+{
+    match as_list(value) {
+        Some(items) => items,
+        None => &[],
+    }
+}
+
+/// The items of the array that is an object's member of that name, if there is one.
+pub fn list_at<'a>(value: &'a Value, name: &str) -> &'a [Value]
+    ensures { map view result.now ≡ list_at name.now (view value.now) }
+{
+    match value.get(name) {
+        Some(list) => list_of(list),
+        None => &[],
     }
 }
 
