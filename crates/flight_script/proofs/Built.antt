@@ -38,8 +38,11 @@ pub built_none : {A B : Type 0} (R : A → B → Type 0) (all rest : List A) (ou
 built_none R all rest out x b none ys h = none-behind R b.done x rest none ys (subst (λ xs. AllZip R xs ys) b.split h)
 
 -- what is left of a list that is read through a function, from an index on
+pub drop_is : {V : Type 0} (vs : List V) (i : ℕ) (v : V) → i < length vs → v ≡ slice_index_or vs i v → drop i vs ≡ v ∷ drop (i + 1) vs
+drop_is vs i v within is = drop_more vs i v within ∙ ap (λ x. x ∷ drop (i + 1) vs) (sym is)
+
 pub map_drop : {V A : Type 0} (f : V → A) (vs : List V) (i : ℕ) (v : V) → i < length vs → v ≡ slice_index_or vs i v → map f (drop i vs) ≡ f v ∷ map f (drop (i + 1) vs)
-map_drop f vs i v within is = ap (λ xs. map f xs) (drop_more vs i v within ∙ ap (λ x. x ∷ drop (i + 1) vs) (sym is))
+map_drop f vs i v within is = ap (λ xs. map f xs) (drop_is vs i v within is)
 
 -- one item further
 pub built_next : {V A B : Type 0} (R : A → B → Type 0) (f : V → A) (all : List A) (vs : List V) (i : ℕ) (v : V) (out new : List B) (y : B)

@@ -27,12 +27,18 @@ is_version d = option_map_or (λ n. n == 1) (option_and_then as_u64 (option_and_
 abbrev pub are_named : Data → Bool
 are_named d = option_map_or (list_all (λ m. is_plain_name m.0)) (as_members d) false
 
+abbrev pub has_sources : Data → Bool
+has_sources d = option_map_or are_named (get (codes "sources") d) false
+
+-- there may be none
+abbrev pub may_have_streams : Data → Bool
+may_have_streams d = option_map_or are_named (get (codes "streams") d) true
+
+-- an object of these members, of which `streams` and `settlers` may be absent
 abbrev pub is_script : Data → Bool
 is_script d =
     has_only (codes "version" ∷ codes "sources" ∷ codes "streams" ∷ codes "settlers" ∷ []) d
-    && (is_version d
-    && (option_map_or are_named (get (codes "sources") d) false
-    && option_map_or are_named (get (codes "streams") d) true))
+    && (is_version d && (has_sources d && may_have_streams d))
 
 -- the members of an object in an object
 abbrev pub members_at : List ℕ → Data → List Member

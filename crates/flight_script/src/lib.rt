@@ -6,6 +6,7 @@ mod look;
 mod named;
 mod names;
 mod node;
+mod script;
 mod settler;
 mod slot;
 mod source;
@@ -14,3 +15,4 @@ mod text;
 mod unfit;
 
 pub use fault::ScriptFault;
+pub use script::read_script;
