@@ -6,3 +6,4 @@ pub mod Passing
 pub mod Finding
 pub mod Settling
 pub mod Naming
+pub mod Assembling
