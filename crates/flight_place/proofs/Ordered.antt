@@ -15,6 +15,7 @@ use Rattle.serde_json.specs.Data.{Data, null, boolean, number, string, array, ob
 use Rattle.serde_json.specs.Read.{read, max_depth, of_json, of_items, of_members, number_of}
 use Rattle.serde_json.specs.Written.{compact_text}
 use Rattle.flight_value.specs.Graph.{Ascend}
+use Rattle.flight_text.specs.Whole.{whole_of, has_whole_numbers}
 use Rattle.flight_value.specs.declared.graph.Atom.TheVariants as atom
 use Rattle.flight_row.specs.declared.row.Row.{Row}
 use Rattle.flight_row.specs.declared.row.RowKind.{RowKind}
@@ -28,8 +29,8 @@ use Rattle.flight_place.specs.declared.place.Manner.TheVariants.{Wire, Reply}
 use Rattle.flight_place.specs.declared.place.PlaceTree.{PlaceTree}
 use Rattle.flight_place.specs.declared.fault.PlaceKind.TheVariants.{BadModel, Number, BadElement}
 use Rattle.flight_place.specs.Tokens.{place_of}
-use Rattle.flight_place.specs.Places.{Visit, placed, token, faulty, whole_of, number_visit, is_marked, is_element, element_of, mark_visit, count, item_numbers, member_numbers, visits, element_visits, item_visits, member_visits, HasPlace, HavePlaces}
-use Rattle.flight_place.specs.Rows.{model_visits, digest_of, has_whole_numbers, import_visit, failed_visit, row_visits, IsTree}
+use Rattle.flight_place.specs.Places.{Visit, placed, token, faulty, number_visit, is_marked, is_element, element_of, mark_visit, count, item_numbers, member_numbers, visits, element_visits, item_visits, member_visits, HasPlace, HavePlaces}
+use Rattle.flight_place.specs.Rows.{model_visits, digest_of, import_visit, failed_visit, row_visits, IsTree}
 use Rattle.flight_place.specs.Parts.{HasOrder}
 
 -- ---- members in order

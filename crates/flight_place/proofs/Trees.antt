@@ -9,6 +9,7 @@ use Rattle.serde_json.specs.Written.{has_float, items_have_float, members_have_f
 use Rattle.flight_text.proofs.Lines.{same_mark}
 use Rattle.flight_row.specs.declared.row.Row.{Row}
 use Rattle.flight_row.specs.declared.row.RowKind.{RowKind}
+use Rattle.flight_text.specs.Whole.{whole_of, has_whole_numbers, items_have_whole_numbers, members_have_whole_numbers}
 use Rattle.flight_value.specs.declared.graph.Atom.TheVariants as atom
 use Rattle.flight_place.specs.declared.place.Place.{Place}
 use Rattle.flight_place.specs.declared.place.Place.TheVariants as place
@@ -19,9 +20,9 @@ use Rattle.flight_place.specs.declared.fault.PlaceKind.TheVariants.{BadModel}
 use Rattle.flight_place.specs.declared.fault.PlaceFault.{PlaceFault}
 use Rattle.flight_place.specs.declared.fault.PlaceFault.TheVariants.{Fault, Memory}
 use Rattle.flight_place.specs.Tokens.{place_of}
-use Rattle.flight_place.specs.Places.{Visit, placed, token, faulty, whole_of, visits, HasPlace, HavePlaces, IsFault, IsFirstFault}
+use Rattle.flight_place.specs.Places.{Visit, placed, token, faulty, visits, HasPlace, HavePlaces, IsFault, IsFirstFault}
 use Rattle.flight_place.specs.Faults.{Refuses, IsUnfit, IsUnread, Adds}
-use Rattle.flight_place.specs.Rows.{model_visits, import_visit, has_whole_numbers, items_have_whole_numbers, members_have_whole_numbers, IsTree}
+use Rattle.flight_place.specs.Rows.{model_visits, import_visit, IsTree}
 
 has-one : (manner : Manner) (v : Visit) (p q : Place) → HasPlace manner v p → HasPlace manner v q → p ≡ q
 has-one manner (placed r) p q h k = h ∙ sym k

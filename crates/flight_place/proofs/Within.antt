@@ -12,6 +12,7 @@ use Rattle.flight_row.specs.declared.row.RowKind.{RowKind}
 use Rattle.flight_row.specs.declared.row.RowKind.TheVariants as row
 use Rattle.flight_text.specs.declared.mark.Mark.{Mark}
 use Rattle.flight_text.specs.declared.mark.Mark.TheVariants as mark
+use Rattle.flight_text.specs.Whole.{whole_of, has_whole_numbers}
 use Rattle.flight_value.specs.declared.graph.Atom.TheVariants as atom
 use Rattle.flight_place.specs.declared.place.Place.{Place}
 use Rattle.flight_place.specs.declared.place.Place.TheVariants as place
@@ -21,8 +22,8 @@ use Rattle.flight_place.specs.declared.place.PlaceTree.{PlaceTree}
 use Rattle.flight_place.specs.declared.fault.PlaceKind.{PlaceKind}
 use Rattle.flight_place.specs.declared.fault.PlaceKind.TheVariants.{BadModel, Number, BadElement}
 use Rattle.flight_place.specs.Tokens.{place_of}
-use Rattle.flight_place.specs.Places.{Visit, placed, token, faulty, whole_of, number_visit, is_marked, is_element, element_of, mark_visit, count, item_count, member_count, item_numbers, member_numbers, visits, array_visits, element_visits, item_visits, member_visits, HasPlace, HavePlaces}
-use Rattle.flight_place.specs.Rows.{model_visits, digest_of, has_whole_numbers, import_visit, failed_visit, error_visit, row_visits, IsTree}
+use Rattle.flight_place.specs.Places.{Visit, placed, token, faulty, number_visit, is_marked, is_element, element_of, mark_visit, count, item_count, member_count, item_numbers, member_numbers, visits, array_visits, element_visits, item_visits, member_visits, HasPlace, HavePlaces}
+use Rattle.flight_place.specs.Rows.{model_visits, digest_of, import_visit, failed_visit, error_visit, row_visits, IsTree}
 use Rattle.flight_place.specs.Parts.{IsWithin}
 use Rattle.flight_place.proofs.Walks.{mark-count}
 

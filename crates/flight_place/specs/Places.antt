@@ -1,11 +1,12 @@
 -- What the walk over a payload visits, and the places that stand for it.
-use Rattle.std.specs.Prelude.{ℕ, ◌+◌, ◌-◌, ◌^◌, ◌≡◌, ◌⊎◌, nat_lt, if◌then◌else◌, Bool, true, false, ℤ, pos, negsuc, List, [], ◌∷◌, ◌++◌, Option, Some, None}
+use Rattle.std.specs.Prelude.{ℕ, ◌+◌, ◌≡◌, ◌⊎◌, if◌then◌else◌, Bool, true, false, ℤ, List, [], ◌∷◌, ◌++◌, Option, Some, None}
 use Rattle.std.specs.List.{AllZip}
-use Rattle.serde_json.specs.Data.{Num, unsigned, negative, float, Data, null, boolean, number, string, array, object, Items, no_items, item, Members, no_members, member}
+use Rattle.serde_json.specs.Data.{Data, null, boolean, number, string, array, object, Items, no_items, item, Members, no_members, member}
 use Rattle.flight_value.specs.declared.graph.Atom.TheVariants as atom
 use Rattle.flight_text.specs.declared.mark.Mark.{Mark}
 use Rattle.flight_text.specs.declared.mark.Mark.TheVariants as mark
 use Rattle.flight_text.specs.Mark.{IsSpelling}
+use Rattle.flight_text.specs.Whole.{whole_of}
 use Rattle.flight_place.specs.declared.place.Place.{Place}
 use Rattle.flight_place.specs.declared.place.Place.TheVariants as place
 use Rattle.flight_place.specs.declared.place.Named.{Named}
@@ -22,13 +23,6 @@ pub data Visit : Type 0 where
   faulty : PlaceKind → Visit
 
 -- ---- numbers
-
--- a whole number within 53 bits, written without fraction or exponent and not as -0
-abbrev pub whole_of : Num → Option ℤ
-whole_of (unsigned n) = if nat_lt n (2 ^ 53) then Some (pos n) else None
-whole_of (negative (pos n)) = None
-whole_of (negative (negsuc n)) = if nat_lt n (2 ^ 53 - 1) then Some (negsuc n) else None
-whole_of (float x) = None
 
 abbrev pub number_visit : Option ℤ → Visit
 number_visit (Some z) = placed (place.Atom (atom.Whole z))

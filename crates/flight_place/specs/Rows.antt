@@ -5,6 +5,7 @@ use Rattle.serde_json.specs.Read.{read}
 use Rattle.serde_json.specs.Find.{get, as_str}
 use Rattle.serde_json.specs.Written.{compact_text}
 use Rattle.flight_value.specs.declared.graph.Atom.TheVariants as atom
+use Rattle.flight_text.specs.Whole.{has_whole_numbers}
 use Rattle.flight_row.specs.declared.row.Row.{Row}
 use Rattle.flight_row.specs.declared.row.RowKind.{RowKind}
 use Rattle.flight_row.specs.declared.row.RowKind.TheVariants as row
@@ -13,7 +14,7 @@ use Rattle.flight_place.specs.declared.place.Manner.{Manner}
 use Rattle.flight_place.specs.declared.place.PlaceTree.{PlaceTree}
 use Rattle.flight_place.specs.declared.fault.PlaceKind.{PlaceKind}
 use Rattle.flight_place.specs.declared.fault.PlaceKind.TheVariants.{BadModel, Number}
-use Rattle.flight_place.specs.Places.{Visit, placed, faulty, whole_of, visits, HavePlaces, IsFirstFault}
+use Rattle.flight_place.specs.Places.{Visit, placed, faulty, visits, HavePlaces, IsFirstFault}
 
 -- ---- what is visited in a row, by its kind
 
@@ -21,24 +22,6 @@ use Rattle.flight_place.specs.Places.{Visit, placed, faulty, whole_of, visits, H
 abbrev pub model_visits : Manner → Option Data → List Visit
 model_visits manner (Some d) = visits manner 0 d
 model_visits manner None = faulty BadModel ∷ []
-
--- each number in a value is whole
-abbrev mutual
-  pub has_whole_numbers : Data → Bool
-  has_whole_numbers null = true
-  has_whole_numbers (boolean b) = true
-  has_whole_numbers (number x) = is_some (whole_of x)
-  has_whole_numbers (string s) = true
-  has_whole_numbers (array ds) = items_have_whole_numbers ds
-  has_whole_numbers (object ms) = members_have_whole_numbers ms
-
-  pub items_have_whole_numbers : Items → Bool
-  items_have_whole_numbers no_items = true
-  items_have_whole_numbers (item d ds) = has_whole_numbers d && items_have_whole_numbers ds
-
-  pub members_have_whole_numbers : Members → Bool
-  members_have_whole_numbers no_members = true
-  members_have_whole_numbers (member name d ms) = has_whole_numbers d && members_have_whole_numbers ms
 
 -- one atom: the JSON with no space, whose strings are no tokens
 abbrev pub import_visit : Option Data → Visit

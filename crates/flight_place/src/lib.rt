@@ -17,7 +17,6 @@ mod tests;
 mod token;
 mod tree;
 mod walk;
-mod whole;
 
 pub use fault::{PlaceFault, PlaceKind};
 pub use law::{

@@ -8,8 +8,8 @@ ghost use Rattle.flight_place.specs.Rows.{model_visits, import_visit, digest_of,
 use crate::fault::{PlaceFault, PlaceKind};
 use crate::place::{Manner, Place, PlaceTree};
 use crate::walk::walk;
-use crate::whole::has_whole_numbers;
 use flight_row::{Row, RowKind};
+use flight_text::has_whole_numbers;
 use flight_value::{Atom, List, Text};
 use serde_json::Value;
 use std::alloc::Global;

@@ -12,3 +12,4 @@ pub mod Derives
 pub mod Grammar
 pub mod Literal
 pub mod Faults
+pub mod Form

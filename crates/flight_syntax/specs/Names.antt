@@ -5,6 +5,7 @@ use Rattle.std.specs.Char.{is_ascii_uppercase}
 use Rattle.std.specs.Str.{bytes_eq}
 use Rattle.flight_syntax.specs.declared.token.Token.{Token}
 use Rattle.flight_syntax.specs.declared.token.TokenKind.TheVariants.{Name}
+use Rattle.flight_syntax.specs.Pieces.{is_name}
 use Rattle.flight_syntax.specs.Tokens.{spelling}
 
 -- the keywords
@@ -18,6 +19,10 @@ keywords =
 -- whether a name is a keyword
 abbrev pub is_keyword : List ℕ → Bool
 is_keyword name = list_any (λ word. bytes_eq word name) keywords
+
+-- a name that is no keyword, as a source and a stream have
+abbrev pub is_plain_name : List ℕ → Bool
+is_plain_name text = is_name text && not (is_keyword text)
 
 -- an Upper name begins with a capital letter, and is no keyword
 abbrev pub is_upper : List ℕ → Bool

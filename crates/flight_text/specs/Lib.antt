@@ -3,3 +3,4 @@ pub mod Big
 pub mod Hex
 pub mod Mark
 pub mod Reference
+pub mod Whole

@@ -6,6 +6,8 @@
 //! marks that both are proved against (React 19.0, `parseModelString` of ReactFlightClient), and
 //! [`one_mark`] that it gives a string one mark at most.
 //!
+//! Numbers in Flight's JSON are whole and have 53 bits at most, which is this project's limit: [`whole`].
+//!
 //! What a string may stand for depends on where it stands: whether the element mark may stand there, and
 //! which marks a reply may have, is for the readers of payloads.
 #![tactic(auto)]
@@ -14,6 +16,7 @@ mod big;
 mod hex;
 mod law;
 mod mark;
+mod number;
 mod read;
 mod reference;
 mod spell;
@@ -22,5 +25,6 @@ mod tests;
 
 pub use law::{one_mark, read_again};
 pub use mark::{Mark, Marked, Ref};
+pub use number::{has_whole_numbers, whole};
 pub use read::read_mark;
 pub use spell::spell_mark;

@@ -1,7 +1,7 @@
 use Rattle.std.proofs.Common.{◌≡◌, drop}
 use Rattle.serde_json.specs.View.{items_view, members_view}
-use Rattle.flight_place.specs.Rows.{items_have_whole_numbers, members_have_whole_numbers}
-use Rattle.flight_place.proofs.whole.+whole.Given as goal
+use Rattle.flight_text.specs.Whole.{items_have_whole_numbers, members_have_whole_numbers}
+use Rattle.flight_text.proofs.number.+whole.Given as goal
 
 abbrev pub invariant-items_have_whole_numbers-loop-item : goal.invariant-items_have_whole_numbers-loop-item
 invariant-items_have_whole_numbers-loop-item l = items_have_whole_numbers (items_view (drop l.item-index l.items)) ≡ items_have_whole_numbers (items_view l.items)

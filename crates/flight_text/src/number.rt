@@ -1,7 +1,6 @@
 ghost use Rattle.std.specs.Prelude.{◌≡◌};
 ghost use Rattle.serde_json.specs.View.{view, items_view, members_view, number_view};
-ghost use Rattle.flight_place.specs.Places.{whole_of};
-ghost use Rattle.flight_place.specs.Rows.{has_whole_numbers, items_have_whole_numbers, members_have_whole_numbers};
+ghost use Rattle.flight_text.specs.Whole.{whole_of, has_whole_numbers, items_have_whole_numbers, members_have_whole_numbers};
 
 use serde_json::{Map, Number, Value};
 

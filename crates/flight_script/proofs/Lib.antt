@@ -1,0 +1,9 @@
+pub mod Views
+pub mod Built
+pub mod Marks
+pub mod Nodes
+pub mod Passing
+pub mod Finding
+pub mod Settling
+pub mod Naming
+pub mod Assembling

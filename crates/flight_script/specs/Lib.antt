@@ -1,0 +1,10 @@
+pub mod Json
+pub mod Slots
+pub mod Sources
+pub mod Streams
+pub mod Settlers
+pub mod Program
+pub mod Tests
+pub mod Script
+pub mod Entries
+pub mod Answer
