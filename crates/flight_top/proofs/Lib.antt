@@ -1,3 +1,6 @@
 pub mod Models
 pub mod Valid
 pub mod Dues
+pub mod Fronts
+pub mod StaticNames
+pub mod StaticSound
