@@ -4,3 +4,4 @@ pub mod Dues
 pub mod Fronts
 pub mod StaticNames
 pub mod StaticSound
+pub mod StaticComplete
