@@ -99,7 +99,7 @@ same_kind-self Mark = refl
 pub word_of_kind : (w : Word) (kind : TokenKind) → same_kind kind w.kind ≡ true → w ≡ the kind w.bytes
 word_of_kind w kind e = ap (λ k. the k w.bytes) (same_kind-is kind w.kind e)
 
-both : (a b : Bool) → (a && b) ≡ true → (a ≡ true) × (b ≡ true)
+pub both : (a b : Bool) → (a && b) ≡ true → (a ≡ true) × (b ≡ true)
 both true b h = (refl, h)
 both false b h = absurd (false≢true h)
 

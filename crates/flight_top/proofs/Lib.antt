@@ -5,3 +5,4 @@ pub mod Fronts
 pub mod StaticNames
 pub mod StaticSound
 pub mod StaticComplete
+pub mod StaticFine
