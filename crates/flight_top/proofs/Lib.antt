@@ -6,3 +6,5 @@ pub mod StaticNames
 pub mod StaticSound
 pub mod StaticComplete
 pub mod StaticFine
+pub mod StaticWords
+pub mod StaticLoops

@@ -1,15 +1,21 @@
 -- The reader of static trees, which gives the JSON of their row; for private clauses.
-use Rattle.std.specs.Prelude.{ℕ, zero, suc, ◌≡◌, ◌==◌, ◌&&◌, Bool, true, false, if◌then◌else◌, List, [], ◌∷◌, ◌++◌, length, codes, Option, Some, None, option_map, option_and_then, is_some}
+use Rattle.std.specs.Prelude.{ℕ, zero, suc, ◌≡◌, ◌==◌, ◌&&◌, Bool, true, false, if◌then◌else◌, List, [], ◌∷◌, ◌++◌, length, drop, codes, Option, Some, None, option_map, option_and_then, is_some, Result, Ok, Err}
+use Rattle.std.specs.List.{All}
 use Rattle.std.specs.Str.{bytes_eq}
 use Rattle.serde_json.specs.Data.{Data, null, boolean, number, unsigned, string, array, object, Items, no_items, item, Members, no_members, member, put}
 use Rattle.serde_json.specs.Find.{get_member}
 use Rattle.serde_json.specs.Read.{read}
-use Rattle.serde_json.specs.View.{items_of}
+use Rattle.serde_json.specs.View.{view, items_of}
+use Rattle.serde_json.specs.declared.value.Value.{Value}
 use Rattle.flight_syntax.specs.declared.token.TokenKind.{TokenKind}
 use Rattle.flight_syntax.specs.declared.token.TokenKind.TheVariants.{Name, Number, Big, Text, Mark}
 use Rattle.flight_syntax.specs.Pieces.{SpellsToken, decimal}
 use Rattle.flight_syntax.specs.Names.{is_lower}
-use Rattle.flight_syntax.specs.Words.{Word}
+use Rattle.flight_syntax.specs.Tokens.{IsTokenOf}
+use Rattle.flight_syntax.specs.Words.{Word, words_of}
+use Rattle.flight_top.specs.declared.words.Code.{Code}
+use Rattle.flight_top.specs.declared.words.Unbuilt.{Unbuilt}
+use Rattle.flight_top.specs.declared.words.Unbuilt.TheVariants as unbuilt
 use Rattle.flight_top.specs.Static as static
 use Rattle.flight_top.specs.Static.{Static, most_values}
 
@@ -180,3 +186,23 @@ opening ws = want Name (codes "server") ws >>= λ a. want Name (codes "App") a >
 
 abbrev pub program : List Word → Option Data
 program ws = opening ws >>= λ r. value most_values r >>= λ v. want Mark (codes ";") v.1 >>= λ e. ended (v.0, e)
+
+-- ---- what a function of the code gives
+
+-- what was returned, seen by view, is what reading gives, unless memory was wanting
+abbrev pub Gives : {X Y : Type 0} → (X → Y) → Result X Unbuilt → Option Y → Type 0
+Gives view (Ok x) read = read ≡ Some (view x)
+Gives view (Err unbuilt.NotBuilt) read = read ≡ None
+Gives view (Err unbuilt.Memory) read = Unit {0}
+
+-- each token is one of the text's
+abbrev pub AreOfText : Code → Type 0
+AreOfText code = All (IsTokenOf code.text.now) code.tokens.now
+
+-- the words from a token on
+abbrev pub words_from : Code → ℕ → List Word
+words_from code at = words_of code.text.now (drop at code.tokens.now)
+
+-- a value, and the words behind it
+abbrev pub seen : Code → Value × ℕ → Data × List Word
+seen code x = (view x.0, words_from code x.1)

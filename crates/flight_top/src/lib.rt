@@ -15,7 +15,10 @@ mod model;
 mod one_row;
 #[cfg(test)]
 mod tests;
+mod static_read;
+mod static_word;
 mod told;
+mod words;
 
 pub use alone::flight_alone;
 pub use told::{Status, Told};
