@@ -8,3 +8,5 @@ pub mod StaticComplete
 pub mod StaticFine
 pub mod StaticWords
 pub mod StaticLoops
+pub mod StaticLines
+pub mod StaticPrograms

@@ -1,12 +1,15 @@
 -- The words of tokens, one by one.
 use Rattle.std.proofs.Common.{◌≡◌, ℕ, zero, suc, ◌+◌, ◌<◌, ◌≤◌, List, [], ◌∷◌, length, drop, slice_index_or, refl, sym, ◌∙◌, ap, arith, add-one, drop-cons, Bool, true, false, Option, Some, None, if◌then◌else◌}
 use Rattle.flight_syntax.specs.Names.{is_lower}
-use Rattle.flight_syntax.specs.Words.{Word, word_of}
+use Rattle.std.specs.List.{AllByRecursion}
+use Rattle.serde_json.specs.Data.{Data}
+use Rattle.flight_syntax.specs.Tokens.{IsTokenOf}
+use Rattle.flight_syntax.specs.Words.{Word, word_of, words_of}
 use Rattle.flight_syntax.specs.declared.token.TokenKind.{TokenKind}
 use Rattle.flight_syntax.specs.declared.token.TokenKind.TheVariants.{Name}
 use Rattle.flight_syntax.specs.declared.token.Token.{Token}
 use Rattle.flight_top.specs.declared.words.Code.{Code}
-use Rattle.flight_top.specs.StaticReader.{words_from, same_kind, is_the, want, lower_name, gives}
+use Rattle.flight_top.specs.StaticReader.{words_from, same_kind, is_the, want, lower_name, gives, ended, AreSpelled}
 use Rattle.flight_top.proofs.Fronts.{the, want-one, is_the-is, same_kind-is}
 
 drop-past : (ts : List Token) (at : ℕ) → length ts ≤ at → drop at ts ≡ []
@@ -42,3 +45,16 @@ lower_none w ws other = go (same_kind Name w.kind) (is_lower w.bytes) refl refl
     go false c k l = refl
     go true false k l = refl
     go true true k l = absurd (other (same_kind-is Name w.kind k, l))
+
+-- ---- the end
+
+pub ended_at : (code : Code) (at : ℕ) (v : Data) → length code.tokens.now ≤ at → ended (v, words_from code at) ≡ Some v
+ended_at code at v h = ap (λ (ws : List Word). ended (v, ws)) (words_past code at h)
+
+pub not_ended : (code : Code) (at : ℕ) (v : Data) → at < length code.tokens.now → ended (v, words_from code at) ≡ None
+not_ended code at v h = ap (λ (ws : List Word). ended (v, ws)) (words_at code at (record { kind = Name; from = 0; to = 0 }) h)
+
+-- the tokens of a text are spelled as their kinds say
+pub are_spelled : (text : List ℕ) (tokens : List Token) → AllByRecursion (IsTokenOf text) tokens → AreSpelled (words_of text tokens)
+are_spelled text [] h = tt
+are_spelled text (t ∷ ts) h = (h.0.spelled, are_spelled text ts h.1)

@@ -6,3 +6,4 @@ pub mod Due
 pub mod Static
 pub mod Drawn
 pub mod StaticReader
+pub mod StaticRow

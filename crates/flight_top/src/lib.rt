@@ -15,7 +15,9 @@ mod model;
 mod one_row;
 #[cfg(test)]
 mod tests;
+mod static_program;
 mod static_read;
+mod static_row;
 mod static_word;
 mod told;
 mod words;

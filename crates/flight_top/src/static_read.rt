@@ -45,7 +45,7 @@ fn atom(alloc: Global, code: &Code, at: usize) -> Result<(Value, usize), Unbuilt
 }
 
 /// What is behind a mark that has to stand at this place.
-fn mark(code: &Code, at: usize, mark: &str) -> Result<usize, Unbuilt>
+pub fn mark(code: &Code, at: usize, mark: &str) -> Result<usize, Unbuilt>
     requires { AreOfText code.now }
     ensures { Gives (words_from code.now) result (want kind.Mark mark.now (words_from code.now at)) }
 {
@@ -55,7 +55,7 @@ fn mark(code: &Code, at: usize, mark: &str) -> Result<usize, Unbuilt>
 /// The value at this place, with so many levels.
 #[cycle(static_read)]
 #[tactic(auto, unfolding(crate::specs::StaticReader::value))]
-fn value(alloc: Global, levels: u32, code: &Code, at: usize) -> Result<(Value, usize), Unbuilt>
+pub fn value(alloc: Global, levels: u32, code: &Code, at: usize) -> Result<(Value, usize), Unbuilt>
     requires { AreOfText code.now }
     ensures { Gives (seen code.now) result (value levels (words_from code.now at)) }
 {
