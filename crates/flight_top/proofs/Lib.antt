@@ -10,3 +10,4 @@ pub mod StaticWords
 pub mod StaticLoops
 pub mod StaticLines
 pub mod StaticPrograms
+pub mod StaticRows

@@ -272,8 +272,8 @@ mutual
       let e = nodes_same t n p.0 in
       let r = props_same props (n + length (nodes_at n t)) p.1 in (
         ap (λ x. named_slot named x ∷ model.member_props (n + length (model.nodes_at n (json_of t))) (members_json props)) s
-        ∙ ap (λ (ns : List Node). named_slot named (slot_at n t) ∷ model.member_props (n + length ns) (members_json props)) e
-        ∙ ap (λ xs. named_slot named (slot_at n t) ∷ xs) r.0,
+            ∙ ap (λ (ns : List Node). named_slot named (slot_at n t) ∷ model.member_props (n + length ns) (members_json props)) e
+            ∙ ap (λ xs. named_slot named (slot_at n t) ∷ xs) r.0,
         ap (λ (ns : List Node). ns ++ model.member_nodes (n + length ns) (members_json props)) e ∙ ap (λ ns. nodes_at n t ++ ns) r.1,
       )
 

@@ -1,5 +1,5 @@
 -- What the reader gives for a program, and which bytes are one.
-use Rattle.std.proofs.Common.{◌≡◌, ℕ, ◌*◌, ◌≤◌, List, length, refl, sym, ◌∙◌, ap, subst, arith, Option, Some, None, IsUtf8, All}
+use Rattle.std.proofs.Common.{◌≡◌, ℕ, ◌*◌, ◌≤◌, List, length, refl, sym, ◌∙◌, ap, subst, arith, Option, Some, None, IsUtf8, All, true}
 use Rattle.std.specs.Prelude.{Result, Ok, Err, IfOk}
 use Rattle.std.proofs.lemmas.List.Elements.{recursion_from_All}
 use Rattle.serde_json.specs.Data.{Data}
@@ -11,14 +11,17 @@ use Rattle.flight_syntax.specs.Tokens.{AreTokens, IsTokenOf, HasFault, HasOneRea
 use Rattle.flight_syntax.specs.Words.{Word, words_of}
 use Rattle.flight_top.specs.declared.words.Unbuilt.{Unbuilt}
 use Rattle.flight_top.specs.declared.words.Unbuilt.TheVariants as unbuilt
+use Rattle.flight_graph.specs.Text.{text_of}
+use Rattle.flight_top.specs.Model as model
+use Rattle.flight_top.specs.Model.{is_plain}
 use Rattle.flight_top.specs.Static.{Static, IsStatic, Declares, most_program, most_values}
-use Rattle.flight_top.specs.Drawn.{ordered}
+use Rattle.flight_top.specs.Drawn.{ordered, graph_of}
 use Rattle.flight_top.specs.StaticReader.{Gives, program, json_of}
 use Rattle.flight_top.specs.StaticRow.{IsRowJson}
 use Rattle.flight_top.proofs.StaticWords.{are_spelled}
 use Rattle.flight_top.proofs.StaticSound.{program_sound}
 use Rattle.flight_top.proofs.StaticComplete.{program_complete}
-use Rattle.flight_top.proofs.StaticFine.{tree_fine}
+use Rattle.flight_top.proofs.StaticFine.{tree_fine, graph_same}
 use Rattle.flight_top.proofs.StaticLines.{row_json}
 
 pub declared_tree : (input : List ℕ) (ts : List Token) (r : Result Value Unbuilt) → length input ≤ most_program → IsUtf8 input → AreTokens input ts → All (IsTokenOf input) ts → Gives view r (program (words_of input ts))
@@ -57,3 +60,7 @@ one_json input one a b s t =
     let first = program_complete a (words_of input s.tokens) s.declares s.lawful in
     let second = ap (λ ts. program (words_of input ts)) same ∙ program_complete b (words_of input t.tokens) t.declares t.lawful in
     some_json (json_of (ordered a)) (json_of (ordered b)) (sym first ∙ second)
+
+-- the text of the graph that a tree's JSON means
+pub tree_text : (tree : Static) (d : Data) → d ≡ json_of (ordered tree) → is_plain d ≡ true → text_of (model.graph_of d) ≡ text_of (graph_of tree)
+tree_text tree d e plain = ap text_of (ap model.graph_of e ∙ graph_same tree (ap is_plain (sym e) ∙ plain))

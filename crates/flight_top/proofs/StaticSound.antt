@@ -141,8 +141,8 @@ items_sound d p hp (suc n) done ws h v rest e =
             close_front = g.close_front;
             lawful = (f.lawful, g.lawful);
             is = g.is
-            ∙ ap (λ z. json.array (items_of z)) (append_assoc done (a.0.0 ∷ []) (listed (item_and g.first g.more)))
-            ∙ ap (λ z. json.array (items_of (done ++ z ∷ listed (item_and g.first g.more)))) f.is;
+                ∙ ap (λ z. json.array (items_of z)) (append_assoc done (a.0.0 ∷ []) (listed (item_and g.first g.more)))
+                ∙ ap (λ z. json.array (items_of (done ++ z ∷ listed (item_and g.first g.more)))) f.is;
           }
     ]
 

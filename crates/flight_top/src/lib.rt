@@ -13,12 +13,12 @@ mod alone;
 mod due;
 mod model;
 mod one_row;
-#[cfg(test)]
-mod tests;
 mod static_program;
 mod static_read;
 mod static_row;
 mod static_word;
+#[cfg(test)]
+mod tests;
 mod told;
 mod words;
 

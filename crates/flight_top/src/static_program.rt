@@ -60,10 +60,13 @@ pub fn static_json(alloc: Global, input: &[u8]) -> Result<Value, Unbuilt>
     }
     one_reading();
     match tokens(alloc, input) {
-        Ok(tokens) => program(alloc, &Code {
-            text: input,
-            tokens: tokens.as_slice(),
-        }),
+        Ok(tokens) => program(
+            alloc,
+            &Code {
+                text: input,
+                tokens: tokens.as_slice(),
+            },
+        ),
         Err(Lexed::Fault(_)) => Err(Unbuilt::NotBuilt),
         Err(Lexed::Memory) => Err(Unbuilt::Memory),
     }

@@ -128,7 +128,13 @@ fn object(alloc: Global, below: u32, code: &Code, at: usize) -> Result<(Value, u
 
 /// Puts the property at this place among others.
 #[cycle(static_read)]
-fn property(alloc: Global, below: u32, code: &Code, at: usize, members: &mut Map<String, Value>) -> Result<usize, Unbuilt>
+fn property(
+    alloc: Global,
+    below: u32,
+    code: &Code,
+    at: usize,
+    members: &mut Map<String, Value>,
+) -> Result<usize, Unbuilt>
     requires { AreOfText code.now }
     ensures { Gives (λ end. (members_view members.new.entries, words_from code.now end)) result (property (value below) (members_view members.old.entries) (words_from code.now at)) }
 {
@@ -162,7 +168,13 @@ fn element_value(alloc: Global, tag: &str, members: Map<String, Value>) -> Resul
 
 /// Puts the attributes from this place on among others.
 #[cycle(static_read)]
-fn attributes(alloc: Global, below: u32, code: &Code, at: usize, members: &mut Map<String, Value>) -> Result<usize, Unbuilt>
+fn attributes(
+    alloc: Global,
+    below: u32,
+    code: &Code,
+    at: usize,
+    members: &mut Map<String, Value>,
+) -> Result<usize, Unbuilt>
     requires { AreOfText code.now }
     ensures { Gives (λ end. (members_view members.new.entries, words_from code.now end)) result (attributes_by (length (words_from code.now at)) (value below) (members_view members.old.entries) (words_from code.now at)) }
 {
@@ -178,7 +190,13 @@ fn attributes(alloc: Global, below: u32, code: &Code, at: usize, members: &mut M
 
 /// Puts the attribute at this place among others.
 #[cycle(static_read)]
-fn attribute(alloc: Global, below: u32, code: &Code, at: usize, members: &mut Map<String, Value>) -> Result<usize, Unbuilt>
+fn attribute(
+    alloc: Global,
+    below: u32,
+    code: &Code,
+    at: usize,
+    members: &mut Map<String, Value>,
+) -> Result<usize, Unbuilt>
     requires { AreOfText code.now }
     ensures { Gives (λ end. (members_view members.new.entries, words_from code.now end)) result (attribute (value below) (members_view members.old.entries) (words_from code.now at)) }
 {
@@ -194,7 +212,12 @@ fn attribute(alloc: Global, below: u32, code: &Code, at: usize, members: &mut Ma
 
 /// The text, or the value in braces, at this place.
 #[cycle(static_read)]
-fn attribute_value(alloc: Global, below: u32, code: &Code, at: usize) -> Result<(Value, usize), Unbuilt>
+fn attribute_value(
+    alloc: Global,
+    below: u32,
+    code: &Code,
+    at: usize,
+) -> Result<(Value, usize), Unbuilt>
     requires { AreOfText code.now }
     ensures { Gives (seen code.now) result (attribute_value (value below) (words_from code.now at)) }
 {

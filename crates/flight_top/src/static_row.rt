@@ -1,11 +1,11 @@
-ghost use Rattle.std.specs.Prelude.{◌≡◌, ◌++◌, ◌≤◌, length, IfOk, OnOk};
+ghost use Rattle.std.specs.Prelude.{◌≡◌, ◌++◌, IfOk, OnOk};
 ghost use Rattle.serde_json.specs.View.{view};
 ghost use Rattle.flight_value.specs.Graph.{IsValid};
 ghost use Rattle.flight_value.specs.declared.graph.Graph.{Graph};
 ghost use Rattle.flight_row.specs.Written.{IsWritable, spelling_of};
 ghost use Rattle.flight_top.specs.Model.{graph_of};
 ghost use Rattle.flight_top.specs.OneRow.{IsOneRow};
-ghost use Rattle.flight_top.specs.StaticRow.{IsRowJson, row_of};
+ghost use Rattle.flight_top.specs.StaticRow.{IsRowJson, IsRootRow, row_of};
 
 use crate::model::{Refused, model_graph};
 use crate::one_row::row_payload;
@@ -22,12 +22,10 @@ const MOST_PAYLOAD: usize = 67_108_861;
 /// memory.
 fn root_row(alloc: Global, value: &Value) -> Result<Row, Memory>
     requires { IsRowJson (view value.now) }
-    ensures writable { IfOk result IsWritable }
-    ensures spelling { IfOk result (λ row. spelling_of row ≡ row_of (view value.now)) }
-    ensures short { IfOk result (λ row. length (spelling_of row) ≤ 67108864) }
+    ensures { IfOk result (IsRootRow (view value.now)) }
 {
     let payload = value.to_string(alloc)?;
-    if payload.len() > MOST_PAYLOAD {
+    if payload.as_bytes().len() > MOST_PAYLOAD {
         return Err(Memory);
     }
     Ok(Row {
