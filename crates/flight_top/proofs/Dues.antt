@@ -12,7 +12,7 @@ use Rattle.flight_top.specs.declared.told.Status.TheVariants as status
 use Rattle.flight_top.specs.Model.{MeansGraph}
 use Rattle.flight_top.specs.OneRow.{IsRowOf, IsOneRow}
 use Rattle.flight_top.specs.Told.{is_whole}
-use Rattle.flight_top.specs.Due.{IsDue, usage, view, IsDueView, IsDueViewOf, most_stream, texts}
+use Rattle.flight_top.specs.Due.{IsDue, usage, view, run, IsDueView, IsDueViewOf, IsDueRun, IsDueRunOf, most_stream, most_bundle, texts}
 
 -- a row has one payload
 pub one_payload : (input p q : List ℕ) → IsRowOf input p → IsRowOf input q → p ≡ q
@@ -31,19 +31,12 @@ pub not_built : (input p : List ℕ) → length input ≤ most_stream → IsRowO
 not_built input p short a none = inr (inr (row_nonempty input p a, short, no_graph input p a none, refl))
 
 -- a refusal is due with its own status and line
-pub due_line : (input : List ℕ) (r : Result Due Undue) (line : List ℕ) → IfOk r (λ due. (due.status ≡ status.Stream) × (due.text ≡ line)) → IsDueView input status.Stream line → IfOk r (λ due. IsDueView input due.status due.text)
-due_line input (Ok due) line h k =
-    let P : Status → Type 0 = λ s. IsDueView input s due.text in
-    let Q : List ℕ → Type 0 = λ t. IsDueView input status.Stream t in
+pub due_line : (IsOwed : Status → List ℕ → Type 0) (status : Status) (r : Result Due Undue) (line : List ℕ) → IfOk r (λ due. (due.status ≡ status) × (due.text ≡ line)) → IsOwed status line → IfOk r (λ due. IsOwed due.status due.text)
+due_line IsOwed status (Ok due) line h k =
+    let P : Status → Type 0 = λ s. IsOwed s due.text in
+    let Q : List ℕ → Type 0 = λ t. IsOwed status t in
     subst P (sym h.0) (subst Q (sym h.1) k)
-due_line input (Err e) line h k = h
-
-pub due_line_of : (left : Option (List ℕ)) (r : Result Due Undue) (line : List ℕ) → IfOk r (λ due. (due.status ≡ status.Stream) × (due.text ≡ line)) → IsDueViewOf left status.Stream line → IfOk r (λ due. IsDueViewOf left due.status due.text)
-due_line_of left (Ok due) line h k =
-    let P : Status → Type 0 = λ s. IsDueViewOf left s due.text in
-    let Q : List ℕ → Type 0 = λ t. IsDueViewOf left status.Stream t in
-    subst P (sym h.0) (subst Q (sym h.1) k)
-due_line_of left (Err e) line h k = h
+due_line IsOwed status (Err e) line h k = h
 
 -- the first word
 abbrev pub first_of : List (List ℕ) → List ℕ
@@ -62,9 +55,21 @@ view-whole input status.Read text h = absurd h
 view-whole input status.Write text h = absurd h
 view-whole input status.Memory text h = absurd h
 
+pub run-whole : (input : List ℕ) (s : Status) (text : List ℕ) → IsDueRun input s text → is_whole s ≡ true
+run-whole input status.Done text h = refl
+run-whole input status.Usage text h = absurd h
+run-whole input status.Bundle text h = refl
+run-whole input status.Stream text h = absurd h
+run-whole input status.Fuel text h = absurd h
+run-whole input status.Stalled text h = absurd h
+run-whole input status.Read text h = absurd h
+run-whole input status.Write text h = absurd h
+run-whole input status.Memory text h = absurd h
+
 pub due-whole : (words : List (List ℕ)) (left : Option (List ℕ)) (s : Status) (text : List ℕ) → IsDue words left s text → is_whole s ≡ true
 due-whole words left s text (usage is_none is_status is_text) = ap is_whole is_status
 due-whole words left s text (view is_view is_due) = view-whole is_due.0 s text is_due.2
+due-whole words left s text (run is_run is_due) = run-whole is_due.0 s text is_due.2
 
 -- there are longer lists
 long_list : (n : ℕ) → (input : List ℕ) × (n < length input)
@@ -74,6 +79,11 @@ long_list n = (replicate (n + 1) 0, rw length-replicate (omega arith))
 pub too_long : (left : Option (List ℕ)) → IsMore most_stream left → IsDueViewOf left status.Stream (codes "stream: too long\n")
 too_long None more = let some = long_list most_stream in (some.0, tt, inl (some.1, refl))
 too_long (Some left) more = (left, refl, inl (more, refl))
+
+-- more bytes than a bundle may have
+pub bundle_too_long : (left : Option (List ℕ)) → IsMore most_bundle left → IsDueRunOf left status.Bundle (codes "bundle: too long\n")
+bundle_too_long None more = let some = long_list most_bundle in (some.0, tt, inl (some.1, refl))
+bundle_too_long (Some left) more = (left, refl, inl (more, refl))
 
 -- the text of one word
 pub one_word : (words : List (String Global)) (word : String Global) → 1 ≤ length words → length words < 2 → word ≡ slice_index_or words 0 word → texts words ≡ string_bytes word ∷ []

@@ -1,3 +1,13 @@
 pub mod Models
 pub mod Valid
 pub mod Dues
+pub mod Fronts
+pub mod StaticNames
+pub mod StaticSound
+pub mod StaticComplete
+pub mod StaticFine
+pub mod StaticWords
+pub mod StaticLoops
+pub mod StaticLines
+pub mod StaticPrograms
+pub mod StaticRows

@@ -13,9 +13,14 @@ mod alone;
 mod due;
 mod model;
 mod one_row;
+mod static_program;
+mod static_read;
+mod static_row;
+mod static_word;
 #[cfg(test)]
 mod tests;
 mod told;
+mod words;
 
 pub use alone::flight_alone;
 pub use told::{Status, Told};

@@ -1,6 +1,6 @@
 use Rattle.std.proofs.Common.{◌≡◌, ◌∷◌, [], List, ℕ, sym, ◌∙◌, ap}
 use Rattle.flight_top.proofs.Dues.{one_word, first_of}
-use Rattle.flight_top.proofs.due.is_view.Goals as goal
+use Rattle.flight_top.proofs.due.is_command.Goals as goal
 
 pub returns-in-len1 : goal.returns-in-len1
 returns-in-len1 c =
