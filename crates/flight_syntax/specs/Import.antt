@@ -6,7 +6,7 @@ use Rattle.serde_json.specs.Read.{of_json}
 use Rattle.serde_json.specs.Written.{compact_text}
 use Rattle.flight_syntax.specs.declared.token.Token.{Token}
 use Rattle.flight_syntax.specs.Tokens.{AreTokens}
-use Rattle.flight_syntax.specs.Words.{words_of}
+use Rattle.flight_syntax.specs.Lexicon.{words_of}
 use Rattle.flight_syntax.specs.Grammar.{SpellsJson, most_levels}
 
 -- json of the language, as `serde_json` writes it compactly
