@@ -5,8 +5,8 @@ ghost use Rattle.serde_json.specs.View.{view, members_view};
 ghost use Rattle.flight_syntax.specs.declared.token.TokenKind.TheVariants as kind;
 ghost use Rattle.flight_top.specs.StaticReader.{Gives, AreOfText, words_from, seen, want, atom, array_rest, object_rest, property, braced, attribute_value, attribute, attributes_by, element_rest, begun, value, element_json, escaped};
 
+use crate::static_code::{Code, Unbuilt};
 use crate::static_word::{any_name, escaped, lower_name, number, text, want};
-use crate::words::{Code, Unbuilt};
 use flight_syntax::TokenKind::{Mark, Name};
 use flight_value::Memory;
 use serde_json::{Map, Value};
