@@ -19,7 +19,7 @@ fn add(members: &mut Map<String, Value>, name: String, value: Value) -> Result<(
     ensures twice { result ≡ Err Unbuilt.NotBuilt → is_some (get_member (string_bytes name) (members_view members.old.entries)) ≡ true }
 {
     if members.insert(name, value)?.is_some() {
-        return Err(Unbuilt::NotBuilt);
+        return Err(Unbuilt::NotBuilt); // the name stands twice
     }
     Ok(())
 }
