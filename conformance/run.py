@@ -5,8 +5,8 @@ usage: conformance/run.py [PROGRAM] [FILE ..] [--jobs N] [--seconds N] [--show N
 
 PROGRAM is a command line, as 'node other-flight.mjs'; a case's words are put behind it. Without it the proved build of
 this repository is made by bin/build, and that one is run. A FILE ends in .jsonl and has one case a line, or in .rows and
-is the input of `view`, whose output stands beside it in .txt. Without files, those beside this script and those in
-examples/ are run. README.md here says more.
+is the input of `view`, or in .bundle and is that of `run`; their output stands beside them in .txt. Without files,
+those beside this script and those in examples/ are run. README.md here says more.
 
 Last come the line 'N cases, M mismatches' and the line 'N passed, M failed'. Status 0: every case was answered as it
 says; 1: not so, or there was none; 2: nothing could be run.
@@ -24,7 +24,9 @@ import sys
 
 HERE = pathlib.Path(__file__).resolve().parent
 TOP = HERE.parent
-ENDINGS = (".jsonl", ".rows")
+# The command whose input an example is, and the status of an output that is no graph.
+EXAMPLES = {".rows": ("view", 3), ".bundle": ("run", 2)}
+ENDINGS = (".jsonl", *EXAMPLES)
 # How many bytes of an input or output a mismatch shows.
 SHOWN = 300
 
@@ -37,14 +39,15 @@ def as_bytes(value):
 
 
 def example(path):
-    """The case of an input with its output beside it. Any output but a graph's is that of a refused stream, status 3."""
-    rows = pathlib.Path(path)
-    output = rows.with_suffix(".txt").read_bytes()
-    return Case(rows.stem, ["view"], rows.read_bytes(), output, 0 if output.startswith(b"root ") else 3)
+    """The case of an input with its output beside it. Any output but a graph's is that of a refused input."""
+    given = pathlib.Path(path)
+    output = given.with_suffix(".txt").read_bytes()
+    command, refused = EXAMPLES[given.suffix]
+    return Case(given.stem, [command], given.read_bytes(), output, 0 if output.startswith(b"root ") else refused)
 
 
 def cases_of(path):
-    if path.endswith(".rows"):
+    if path.endswith(tuple(EXAMPLES)):
         yield example(path)
         return
     with open(path, encoding="utf-8", newline="\n") as lines:
@@ -103,10 +106,10 @@ def main():
     files, program = asked.words, None
     if files and not files[0].endswith(ENDINGS):
         program, files = shlex.split(files[0]), files[1:]
-    files = files or sorted(map(str, [*HERE.glob("*.jsonl"), *TOP.glob("examples/*.rows")]))
+    files = files or sorted(map(str, [*HERE.glob("*.jsonl"), *(path for end in EXAMPLES for path in TOP.glob("examples/*" + end))]))
     strange = [path for path in files if not path.endswith(ENDINGS)]
     if strange:
-        give_up(f"a file of cases ends in .jsonl or .rows, and {strange[0]} does not")
+        give_up(f"a file of cases ends in {', '.join(ENDINGS)}, and {strange[0]} does not")
     try:
         cases = [case for path in files for case in cases_of(path)]
     except OSError as fault:

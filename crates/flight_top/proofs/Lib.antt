@@ -11,3 +11,4 @@ pub mod StaticLoops
 pub mod StaticLines
 pub mod StaticPrograms
 pub mod StaticRows
+pub mod StaticExample

@@ -9,8 +9,8 @@ use Rattle.flight_syntax.specs.declared.token.Token.{Token}
 use Rattle.flight_syntax.specs.declared.token.LexFault.{LexFault}
 use Rattle.flight_syntax.specs.Tokens.{AreTokens, IsTokenOf, HasFault, HasOneReading}
 use Rattle.flight_syntax.specs.Words.{Word, words_of}
-use Rattle.flight_top.specs.declared.words.Unbuilt.{Unbuilt}
-use Rattle.flight_top.specs.declared.words.Unbuilt.TheVariants as unbuilt
+use Rattle.flight_top.specs.declared.static_code.Unbuilt.{Unbuilt}
+use Rattle.flight_top.specs.declared.static_code.Unbuilt.TheVariants as unbuilt
 use Rattle.flight_graph.specs.Text.{text_of}
 use Rattle.flight_top.specs.Model as model
 use Rattle.flight_top.specs.Model.{is_plain}

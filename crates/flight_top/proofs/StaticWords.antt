@@ -8,7 +8,7 @@ use Rattle.flight_syntax.specs.Words.{Word, word_of, words_of}
 use Rattle.flight_syntax.specs.declared.token.TokenKind.{TokenKind}
 use Rattle.flight_syntax.specs.declared.token.TokenKind.TheVariants.{Name}
 use Rattle.flight_syntax.specs.declared.token.Token.{Token}
-use Rattle.flight_top.specs.declared.words.Code.{Code}
+use Rattle.flight_top.specs.declared.static_code.Code.{Code}
 use Rattle.flight_top.specs.StaticReader.{words_from, same_kind, is_the, want, lower_name, gives, ended, AreSpelled}
 use Rattle.flight_top.proofs.Fronts.{the, want-one, is_the-is, same_kind-is}
 

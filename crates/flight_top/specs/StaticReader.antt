@@ -13,9 +13,9 @@ use Rattle.flight_syntax.specs.Pieces.{SpellsToken, decimal}
 use Rattle.flight_syntax.specs.Names.{is_lower}
 use Rattle.flight_syntax.specs.Tokens.{IsTokenOf}
 use Rattle.flight_syntax.specs.Words.{Word, words_of}
-use Rattle.flight_top.specs.declared.words.Code.{Code}
-use Rattle.flight_top.specs.declared.words.Unbuilt.{Unbuilt}
-use Rattle.flight_top.specs.declared.words.Unbuilt.TheVariants as unbuilt
+use Rattle.flight_top.specs.declared.static_code.Code.{Code}
+use Rattle.flight_top.specs.declared.static_code.Unbuilt.{Unbuilt}
+use Rattle.flight_top.specs.declared.static_code.Unbuilt.TheVariants as unbuilt
 use Rattle.flight_top.specs.Static as static
 use Rattle.flight_top.specs.Static.{Static, most_values}
 

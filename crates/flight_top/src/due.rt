@@ -12,10 +12,10 @@ ghost use Rattle.flight_top.specs.Due.{IsDue, IsDueView, IsDueViewOf, IsDueRun, 
 
 use crate::model::{Refused, model_graph};
 use crate::one_row::row_payload;
+use crate::static_code::Unbuilt;
 use crate::static_program::static_json;
 use crate::static_row::served_graph;
 use crate::told::Status;
-use crate::words::Unbuilt;
 use flight_base::{ReadAll, Source, read_all};
 use flight_graph::canon_text;
 use flight_value::{Memory, Text};

@@ -5,9 +5,9 @@ ghost use Rattle.flight_top.specs.Drawn.{ordered};
 ghost use Rattle.flight_top.specs.StaticReader.{Gives, AreOfText, words_from, opening, program, json_of};
 ghost use Rattle.flight_top.specs.StaticRow.{IsRowJson};
 
+use crate::static_code::{Code, Unbuilt};
 use crate::static_read::{mark, value};
 use crate::static_word::want;
-use crate::words::{Code, Unbuilt};
 use flight_syntax::TokenKind::Name;
 use flight_syntax::{Lexed, one_reading, tokens};
 use serde_json::Value;

@@ -5,8 +5,8 @@ ghost use Rattle.serde_json.specs.View.{view, members_view};
 ghost use Rattle.flight_syntax.specs.declared.token.TokenKind.TheVariants as kind;
 ghost use Rattle.flight_top.specs.StaticReader.{Gives, AreOfText, words_from, seen, want, atom, array_rest, object_rest, property, braced, attribute_value, attribute, attributes_by, element_rest, begun, value, element_json, escaped};
 
+use crate::static_code::{Code, Unbuilt};
 use crate::static_word::{any_name, escaped, lower_name, number, text, want};
-use crate::words::{Code, Unbuilt};
 use flight_syntax::TokenKind::{Mark, Name};
 use flight_value::Memory;
 use serde_json::{Map, Value};
@@ -19,7 +19,7 @@ fn add(members: &mut Map<String, Value>, name: String, value: Value) -> Result<(
     ensures twice { result ≡ Err Unbuilt.NotBuilt → is_some (get_member (string_bytes name) (members_view members.old.entries)) ≡ true }
 {
     if members.insert(name, value)?.is_some() {
-        return Err(Unbuilt::NotBuilt);
+        return Err(Unbuilt::NotBuilt); // the name stands twice
     }
     Ok(())
 }

@@ -2,7 +2,7 @@ ghost use Rattle.std.specs.Prelude.{◌≡◌, ℕ, IfOk, IfSome, option_map, st
 ghost use Rattle.flight_syntax.specs.Words.{word_of};
 ghost use Rattle.flight_top.specs.StaticReader.{Gives, AreOfText, words_from, seen, escaped, want, any_name, lower_name, a_number, a_text};
 
-use crate::words::{Code, Unbuilt};
+use crate::static_code::{Code, Unbuilt};
 use flight_syntax::TokenKind;
 use serde_json::Value;
 use std::alloc::{AllocError, Global};

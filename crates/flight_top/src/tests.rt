@@ -35,6 +35,16 @@ fn views(rt: &HostRuntime, input: &str, status: Status, text: &str) -> Result<bo
     Ok(told.status == status && sink.held() == text.as_bytes())
 }
 
+/// Whether `run` over these bytes gives this status and text.
+fn runs(rt: &HostRuntime, input: &[u8], status: Status, text: &str) -> Result<bool, Fail> {
+    let run = words(rt, ["run"].as_slice())?;
+    let bytes = Vec::from_slice(rt.alloc(), input)?;
+    let mut source = MemSource::new(bytes, 4096, Vec::new(rt.alloc()));
+    let mut sink = sink(rt, [].as_slice())?;
+    let told = flight_alone(rt.alloc(), run.as_slice(), &mut source, &mut sink);
+    Ok(told.status == status && sink.held() == text.as_bytes())
+}
+
 #[test]
 fn views_one_row(rt: HostRuntime) -> Result<(), Fail> {
     let two = "root #0\n#0 array [#1,#2]\n#1 object {}\n#2 object {}\n";
@@ -44,6 +54,82 @@ fn views_one_row(rt: HostRuntime) -> Result<(), Fail> {
     assert!(rt; views(&rt, "", Status::Stream, "stream: no root\n")?);
     assert!(rt; views(&rt, "0:1.5\n", Status::Stream, "stream: not built\n")?);
     assert!(rt; views(&rt, "0:{\"a\":1", Status::Stream, "stream: not built\n")?);
+    Ok(())
+}
+
+const BUNDLE: &str = "server App() = <p id=\"a\" n={[1,{x:null}]}/>;";
+
+const BUNDLE_TEXT: &str =
+    "root #0\n#0 element \"p\" null #1\n#1 object {\"id\":\"a\",\"n\":#2}\n#2 array [1,#3]\n#3 object {\"x\":null}\n";
+
+#[test]
+fn runs_one_component(rt: HostRuntime) -> Result<(), Fail> {
+    let named = b"server App() = {b:\"$5\",a:[true,false]};".as_slice();
+    let named_text = "root #0\n#0 object {\"a\":#1,\"b\":\"$5\"}\n#1 array [true,false]\n";
+    assert!(rt; runs(&rt, BUNDLE.as_bytes(), Status::Done, BUNDLE_TEXT)?);
+    assert!(rt; runs(&rt, named, Status::Done, named_text)?);
+    assert!(rt;
+        runs(
+            &rt,
+            b"server App() = null;".as_slice(),
+            Status::Done,
+            "root null\n"
+        )?
+    );
+    Ok(())
+}
+
+/// Whether `run` over these bytes says that the bundle is not built.
+fn not_built(rt: &HostRuntime, input: &[u8]) -> Result<bool, Fail> {
+    runs(rt, input, Status::Bundle, "bundle: not built\n")
+}
+
+/// So many spaces.
+fn spaces(rt: &HostRuntime, count: usize) -> Result<Vec<u8>, Fail> {
+    let mut bytes = Vec::new(rt.alloc());
+    for _ in 0..count {
+        bytes.push(b' ')?;
+    }
+    Ok(bytes)
+}
+
+#[test]
+fn refuses_bundles(rt: HostRuntime) -> Result<(), Fail> {
+    let long = spaces(&rt, 65_537)?;
+    let longer = spaces(&rt, 1_048_577)?;
+    assert!(rt; not_built(&rt, &long)?);
+    assert!(rt; runs(&rt, &longer, Status::Bundle, "bundle: too long\n")?);
+    assert!(rt; not_built(&rt, b"server App() = \xff;".as_slice())?);
+    assert!(rt; not_built(&rt, b"server App() = @;".as_slice())?);
+    assert!(rt; not_built(&rt, b"server App() = use s;".as_slice())?);
+    assert!(rt; not_built(&rt, b"server App() = {a:1,a:2};".as_slice())?);
+    assert!(rt; not_built(&rt, b"server App() = <p key=\"k\"/>;".as_slice())?);
+    Ok(())
+}
+
+/// A bundle of so many nested values.
+fn nested(rt: &HostRuntime, values: usize) -> Result<Vec<u8>, Fail> {
+    let mut bytes = Vec::from_slice(rt.alloc(), b"server App() = ".as_slice())?;
+    for _ in 1..values {
+        bytes.push(b'[')?;
+    }
+    bytes.push(b'1')?;
+    for _ in 1..values {
+        bytes.push(b']')?;
+    }
+    bytes.push(b';')?;
+    Ok(bytes)
+}
+
+#[test]
+fn nests_forty_values(rt: HostRuntime) -> Result<(), Fail> {
+    let run = words(&rt, ["run"].as_slice())?;
+    let mut source = MemSource::new(nested(&rt, 40)?, 4096, Vec::new(rt.alloc()));
+    let mut sink = sink(&rt, [].as_slice())?;
+    let told = flight_alone(rt.alloc(), run.as_slice(), &mut source, &mut sink);
+    let more = nested(&rt, 41)?;
+    assert!(rt; told.status == Status::Done);
+    assert!(rt; not_built(&rt, &more)?);
     Ok(())
 }
 

@@ -12,7 +12,7 @@ pub enum Unbuilt {
 
 impl From<Memory> for Unbuilt {
     ghost use Rattle.std.specs.Prelude.{◌≡◌};
-    ghost use Rattle.flight_top.specs.declared.words.Unbuilt.TheVariants as unbuilt;
+    ghost use Rattle.flight_top.specs.declared.static_code.Unbuilt.TheVariants as unbuilt;
 
     ghost from_gives = { λ _ e. e ≡ unbuilt.Memory };
 
@@ -23,7 +23,7 @@ impl From<Memory> for Unbuilt {
 
 impl From<AllocError> for Unbuilt {
     ghost use Rattle.std.specs.Prelude.{◌≡◌};
-    ghost use Rattle.flight_top.specs.declared.words.Unbuilt.TheVariants as unbuilt;
+    ghost use Rattle.flight_top.specs.declared.static_code.Unbuilt.TheVariants as unbuilt;
 
     ghost from_gives = { λ _ e. e ≡ unbuilt.Memory };
 
@@ -34,7 +34,7 @@ impl From<AllocError> for Unbuilt {
 
 impl<T: Drop> From<AllocFailed<T>> for Unbuilt {
     ghost use Rattle.std.specs.Prelude.{◌≡◌};
-    ghost use Rattle.flight_top.specs.declared.words.Unbuilt.TheVariants as unbuilt;
+    ghost use Rattle.flight_top.specs.declared.static_code.Unbuilt.TheVariants as unbuilt;
 
     ghost from_gives = { λ _ e. e ≡ unbuilt.Memory };
 
