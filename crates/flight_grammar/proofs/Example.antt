@@ -1,12 +1,11 @@
 -- The reader at work on `server App(x) = [x, 1].y;` and on words that are no program.
-use Rattle.std.proofs.Common.{◌≡◌, ℕ, zero, suc, List, [], ◌∷◌, refl, pos, Ok, Err, true, false}
+use Rattle.std.proofs.Common.{◌≡◌, ℕ, List, [], ◌∷◌, refl, pos, Ok, Err, true, false}
 use Rattle.std.specs.Prelude.{codes}
 use Rattle.flight_value.specs.declared.graph.Atom.TheVariants as value
 use Rattle.flight_syntax.specs.declared.word.Keyword.TheVariants.{Server}
 use Rattle.flight_syntax.specs.declared.word.Punctuator.TheVariants.{OpenParen, CloseParen, OpenBracket, CloseBracket, Comma, Semicolon, Assign, Dot}
 use Rattle.flight_syntax.specs.Lexicon.{Word, Placed, key, lower, upper, number, mark}
 use Rattle.flight_syntax.specs.Tree as tree
-use Rattle.flight_grammar.specs.Reading.{Fault}
 use Rattle.flight_grammar.specs.Reader.{program, expression, level}
 
 abbrev placed : List ℕ → ℕ → Placed

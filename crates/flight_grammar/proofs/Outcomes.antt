@@ -1,8 +1,5 @@
 -- A text comes to one outcome.
-use Rattle.std.proofs.Common.{◌≡◌, ℕ, zero, suc, Bool, true, false, ◌⊎◌, inl, inr, List, [], ◌∷◌, ◌++◌, length, Option, Some, None, refl, sym, ap, subst, ◌∙◌, append_assoc}
-use Rattle.flight_syntax.specs.declared.token.Token.{Token}
-use Rattle.flight_syntax.specs.declared.token.LexFault.{LexFault}
-use Rattle.flight_syntax.specs.Tokens.{AreTokens}
+use Rattle.std.proofs.Common.{◌≡◌, ℕ, Bool, true, false, ◌⊎◌, inl, inr, List, [], ◌∷◌, ◌++◌, length, Some, refl, sym, ap, subst, ◌∙◌, append_assoc}
 use Rattle.flight_syntax.specs.Lexicon.{Word, words_of}
 use Rattle.flight_syntax.specs.Tree.{Declaration}
 use Rattle.flight_syntax.specs.Grammar.{DeclaresAll}
@@ -13,7 +10,7 @@ use Rattle.flight_syntax.proofs.Readings.{one_reading}
 use Rattle.flight_syntax.proofs.Meanings.{all_said}
 use Rattle.flight_grammar.specs.Reading.{Fault}
 use Rattle.flight_grammar.specs.Verdict.{Alike, IsDeeper, StopsAt}
-use Rattle.flight_grammar.specs.Outcome.{Outcome, lexed, unexpected, too_deep, misnamed, no_app, program, place_of, StopsIn, IsSpelled, ComesTo, HasOneOutcome}
+use Rattle.flight_grammar.specs.Outcome.{lexed, unexpected, too_deep, misnamed, no_app, program, place_of, StopsIn, IsSpelled, HasOneOutcome}
 use Rattle.flight_grammar.proofs.Exact.{ok_is}
 use Rattle.flight_grammar.proofs.Programs.{again}
 

@@ -1,21 +1,21 @@
 -- The parts of a level, from those of the level below.
-use Rattle.std.proofs.Common.{◌≡◌, ℕ, zero, suc, ◌||◌, Bool, true, false, cond, ◌⊎◌, inl, inr, List, [], ◌∷◌, ◌++◌, Option, Some, None, Result, Ok, Err, refl, sym, ap, subst, ◌∙◌}
-use Rattle.flight_syntax.specs.declared.word.Keyword.TheVariants.{Let, In, Then, Else, Give, With}
+use Rattle.std.proofs.Common.{◌≡◌, ℕ, zero, suc, ◌||◌, Bool, true, false, cond, ◌⊎◌, inl, inr, List, [], ◌∷◌, Option, Some, None, refl, sym, subst, ◌∙◌}
+use Rattle.flight_syntax.specs.declared.word.Keyword.TheVariants.{In, Then, Else, Give, With}
 use Rattle.flight_syntax.specs.declared.word.Punctuator.{Punctuator}
-use Rattle.flight_syntax.specs.declared.word.Punctuator.TheVariants.{OpenParen, CloseParen, OpenBracket, CloseBracket, OpenBrace, CloseBrace, Comma, Semicolon, Colon, Dot, Assign, Minus, Less, Greater, LessSlash, SlashGreater}
+use Rattle.flight_syntax.specs.declared.word.Punctuator.TheVariants.{CloseParen, OpenBracket, CloseBracket, OpenBrace, CloseBrace, Comma, Colon, Dot, Assign, Minus, Less, Greater, LessSlash, SlashGreater}
 use Rattle.flight_syntax.specs.declared.expr.Op.{Op}
-use Rattle.flight_syntax.specs.Lexicon.{Word, key, mark, beyond, Placed, U, Phrase, ◌▸◌, one, is_key, is_mark, name_of, lower_of, plain_of, is_plain, text_of, property_of, operator_of}
+use Rattle.flight_syntax.specs.Lexicon.{Word, key, mark, beyond, Placed, U, Phrase, one, is_key, is_mark, name_of, lower_of, plain_of, is_plain, text_of, operator_of}
 use Rattle.flight_syntax.specs.Tree.{Tree, element, too_deep, IsElement}
 use Rattle.flight_syntax.specs.Grammar.{Spells, Beyond}
-use Rattle.flight_grammar.specs.Reading.{Fault, Read, Reader, unexpected, is_some, at, next_is, want, done, both, made, behind, closed, choice, many}
+use Rattle.flight_grammar.specs.Reading.{Reader, is_some, at, want, done, both, made, behind, closed, choice}
 use Rattle.flight_grammar.specs.Reader.{let_rest, if_rest, for_rest, items, property, properties, entry, entries, with_rest, action_rest, operand, paren_rest, bare, given, more_parts, attribute_of, attribute, attributes, starts_given, starts_element, starts_child, child, children, closing, inside_of, inside, element_rest, starts_post}
-use Rattle.flight_grammar.proofs.Exact.{Closed, HasHead, IsMeek, Exact, none, never, or, head_append, head_cases, meek_none, meek_or}
-use Rattle.flight_grammar.proofs.Parts.{Just, exact_done, Seq, Joins, Image, exact_made, Terminal, meek_at, exact_want}
-use Rattle.flight_grammar.proofs.Choices.{IsEager, IsApart, eager_behind, eager_both, eager_made, eager_want, Or, exact_one_of, exact_optional, head_closed, joins, one_head, behind_head, Lead, Trail, after_word, word_and, part_and, up_to, lead_joins}
-use Rattle.flight_grammar.proofs.Many.{Many, Star, goes_on, exact_many, goes_apart}
+use Rattle.flight_grammar.proofs.Exact.{HasHead, IsMeek, Exact, none, never, or, meek_none}
+use Rattle.flight_grammar.proofs.Parts.{Just, exact_done, Seq, Image, exact_made, meek_at, exact_want}
+use Rattle.flight_grammar.proofs.Choices.{IsEager, eager_behind, eager_both, eager_made, eager_want, Or, exact_one_of, exact_optional, head_closed, joins, one_head, behind_head, Lead, Trail, after_word, word_and, part_and, up_to, lead_joins}
+use Rattle.flight_grammar.proofs.Many.{Many, goes_on, exact_many, goes_apart}
 use Rattle.flight_grammar.proofs.Terminals.{mark_is, the_key, the_mark, a_name, a_lower, a_plain, this_name, a_text, a_property, an_operator}
-use Rattle.flight_grammar.proofs.Lists.{IsErr, Refuses, comma, CommaList, UntilList, list_up_to}
-use Rattle.flight_grammar.proofs.After.{after, at_key, at_mark, after_apart, meek_after, key_after, mark_after}
+use Rattle.flight_grammar.proofs.Lists.{IsErr, Refuses, comma, UntilList, list_up_to}
+use Rattle.flight_grammar.proofs.After.{after, at_mark, after_apart, meek_after, key_after, mark_after}
 use Rattle.flight_grammar.proofs.Listed.{E, Property, Entry, Part}
 
 -- a child element of so many levels

@@ -1,23 +1,21 @@
 -- The reader of programs is exact, and what it gives is what the words come to.
-use Rattle.std.proofs.Common.{◌≡◌, ℕ, zero, suc, Bool, true, false, ◌⊎◌, inl, inr, List, [], ◌∷◌, ◌++◌, length, Option, Some, None, Result, Ok, Err, refl, sym, ap, subst, ◌∙◌, append_assoc, codes}
+use Rattle.std.proofs.Common.{◌≡◌, Bool, true, false, inl, inr, List, [], ◌∷◌, ◌++◌, Option, Ok, Err, refl, sym, ap, subst, ◌∙◌, append_assoc, codes}
 use Rattle.std.proofs.lemmas.List.{append-nil}
-use Rattle.json.specs.Json as json
 use Rattle.json.specs.Json.{Json}
-use Rattle.flight_syntax.specs.declared.word.Keyword.TheVariants.{Server, Client, Action, Null}
-use Rattle.flight_syntax.specs.declared.word.Punctuator.{Punctuator}
-use Rattle.flight_syntax.specs.declared.word.Punctuator.TheVariants.{OpenParen, CloseParen, Comma, Semicolon, Assign}
-use Rattle.flight_syntax.specs.Lexicon.{Word, key, lower, upper, mark, deep, beyond, Placed, Phrase, ◌▸◌, nothing, one, is_key, is_mark, keyword, sign, lower_of, component_of}
+use Rattle.flight_syntax.specs.declared.word.Keyword.TheVariants.{Server, Client, Action}
+use Rattle.flight_syntax.specs.declared.word.Punctuator.TheVariants.{OpenParen, CloseParen, Semicolon, Assign}
+use Rattle.flight_syntax.specs.Lexicon.{Word, key, Placed, Phrase, ◌▸◌, one, is_key, is_mark, sign, lower_of, component_of}
 use Rattle.flight_syntax.specs.Tree.{Tree, Declaration, server, client_is, action_is}
-use Rattle.flight_syntax.specs.Grammar.{most_levels, Spells, SpellsJson, Parameters, Declares, DeclaresAll}
-use Rattle.flight_grammar.specs.Reading.{Fault, Read, Reader, ◌>>=◌, Arm, stop, limit, go, at, next_is, want, both, made, by_word, list_until, many}
-use Rattle.flight_grammar.specs.Reader.{expression, json_value, parameters, body, import, declaration_arm, declaration, starts_declaration, ended, program}
-use Rattle.flight_grammar.specs.Verdict.{Alike, IsDeeper, StopsAt, Verdict}
-use Rattle.flight_grammar.proofs.Exact.{Closed, HasHead, Near, IsMeek, Exact, never, closed_near, meek_none, ok_is, exact_for}
+use Rattle.flight_syntax.specs.Grammar.{most_levels, Parameters, Declares, DeclaresAll}
+use Rattle.flight_grammar.specs.Reading.{Read, Reader, ◌>>=◌, at, want, both, many}
+use Rattle.flight_grammar.specs.Reader.{parameters, body, import, declaration_arm, declaration, starts_declaration, ended, program}
+use Rattle.flight_grammar.specs.Verdict.{Verdict}
+use Rattle.flight_grammar.proofs.Exact.{Closed, HasHead, Near, Exact, never, closed_near, meek_none, ok_is, exact_for}
 use Rattle.flight_grammar.proofs.Parts.{Seq, Image, exact_made, ByWord, IsArm, Limit, Arms, exact_word, exact_want, Terminal}
 use Rattle.flight_grammar.proofs.Choices.{IsEager, IsStop, eager_word, Lead, Trail, after_word, word_and, part_and, up_to, joins_never}
 use Rattle.flight_grammar.proofs.Many.{Many, goes_on, exact_many}
 use Rattle.flight_grammar.proofs.Terminals.{the_mark, a_lower, a_component}
-use Rattle.flight_grammar.proofs.Lists.{comma, CommaList, UntilList, list_up_to}
+use Rattle.flight_grammar.proofs.Lists.{comma, UntilList, list_up_to}
 use Rattle.flight_grammar.proofs.After.{at_mark, mark_after}
 use Rattle.flight_grammar.proofs.Listed.{E, J, params_spell, params_back, declared_spell, declared_back}
 use Rattle.flight_grammar.proofs.Productions.{refuses_mark}
@@ -68,8 +66,7 @@ function_spells : (take : Word → Option Placed) (n : Placed) (ps : List Placed
 function_spells take n ps b x m =
     let s = m.4 in
     let p = s.3 in
-    let c = p.4 in
-    (
+    let c = p.4 in (
       m.0,
       m.1,
       m.2,
@@ -87,8 +84,7 @@ function_back : (take : Word → Option Placed) (n : Placed) (ps : List Placed) 
 function_back take n ps b x m =
     let o = m.4 in
     let c = o.4 in
-    let d = c.4 in
-    (
+    let d = c.4 in (
       m.0,
       m.1,
       m.2,
@@ -187,8 +183,7 @@ verdict words = by (all_of words) refl
   where
     by : (r : Read (List Declaration)) → all_of words ≡ r → Verdict words (r >>= ended)
     by (Ok (all, [])) q =
-        let s = exact_all.sound words all [] q in
-        (
+        let s = exact_all.sound words all [] q in (
           subst (DeclaresAll all) (sym (s.whole ∙ append-nil s.front)) (declared_spell all s.front s.spelled),
           λ other m. ap (λ p. p.0) (ok_is (other, []) (all, []) (sym (again other words m) ∙ q)),
         )

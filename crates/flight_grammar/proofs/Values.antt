@@ -1,18 +1,17 @@
 -- The reader of JSON is exact, level by level.
-use Rattle.std.proofs.Common.{◌≡◌, ℕ, zero, suc, Bool, true, false, if◌then◌else◌, ◌⊎◌, inl, inr, List, [], ◌∷◌, ◌++◌, Option, Some, None, refl, sym, ap, subst, ◌∙◌, codes}
+use Rattle.std.proofs.Common.{◌≡◌, ℕ, zero, suc, Bool, true, false, if◌then◌else◌, inl, inr, List, [], ◌∷◌, Option, Some, None, refl, sym, ap, subst, codes}
 use Rattle.std.specs.Str.{bytes_eq}
 use Rattle.json.specs.Json as json
 use Rattle.json.specs.Json.{Json}
 use Rattle.flight_syntax.specs.declared.word.Keyword.TheVariants.{Null}
-use Rattle.flight_syntax.specs.declared.word.Punctuator.{Punctuator}
-use Rattle.flight_syntax.specs.declared.word.Punctuator.TheVariants.{OpenBracket, CloseBracket, OpenBrace, CloseBrace, Comma, Colon, Minus}
-use Rattle.flight_syntax.specs.Lexicon.{Word, Placed, key, number, mark, deep, beyond, Phrase, ◌▸◌, nothing, one, is_mark, is_deep, sign, text_of, json_of, negative_json_of}
+use Rattle.flight_syntax.specs.declared.word.Punctuator.TheVariants.{OpenBracket, CloseBracket, OpenBrace, CloseBrace, Colon, Minus}
+use Rattle.flight_syntax.specs.Lexicon.{Word, Placed, key, number, mark, Phrase, one, is_mark, is_deep, json_of, negative_json_of}
 use Rattle.flight_syntax.specs.Tree.{json_items_of, json_members_of}
 use Rattle.flight_syntax.specs.Grammar.{SpellsJson}
-use Rattle.flight_grammar.specs.Reading.{Reader, at, Arm, stop, limit, go, want, done, made, by_word, list_until}
+use Rattle.flight_grammar.specs.Reading.{Reader, at, by_word, list_until}
 use Rattle.flight_grammar.specs.Reader.{json_key, scalar_arm, json_arm, no_json, json_value}
 use Rattle.flight_grammar.proofs.Exact.{Exact, never, meek_none, exact_for}
-use Rattle.flight_grammar.proofs.Parts.{Just, exact_done, Seq, Image, exact_made, ByWord, IsArm, Limit, Arms, exact_word, exact_want}
+use Rattle.flight_grammar.proofs.Parts.{Just, exact_done, Image, exact_made, ByWord, IsArm, Limit, Arms, exact_word, exact_want}
 use Rattle.flight_grammar.proofs.Choices.{after_word, word_and}
 use Rattle.flight_grammar.proofs.Terminals.{the_mark, a_text, a_negative_json}
 use Rattle.flight_grammar.proofs.Lists.{Refuses, comma, UntilList, list_up_to}

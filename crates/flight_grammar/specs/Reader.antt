@@ -8,11 +8,11 @@ use Rattle.flight_syntax.specs.declared.word.Punctuator.TheVariants.{OpenParen, 
 use Rattle.flight_syntax.specs.declared.expr.Op.{Op}
 use Rattle.json.specs.Json as json
 use Rattle.json.specs.Json.{Json}
-use Rattle.flight_syntax.specs.Lexicon.{Word, key, lower, upper, literal, mark, deep, beyond, Placed, U, is_key, is_mark, is_deep, name_of, lower_of, upper_of, plain_of, is_plain, component_of, text_of, property_of, constant_of, negative_of, date_of, symbol_of, operator_of, json_of, negative_json_of}
+use Rattle.flight_syntax.specs.Lexicon.{Word, key, lower, upper, mark, beyond, Placed, U, is_key, is_mark, is_deep, name_of, lower_of, plain_of, is_plain, component_of, text_of, property_of, constant_of, negative_of, date_of, symbol_of, operator_of, json_of, negative_json_of}
 use Rattle.flight_syntax.specs.Tree.{Tree, Trees, TreeProps, TreePairs, Declaration, let_in, if_else, for_in, throw, member, index, atom, variable, client, array, object, map, set, source, promise, stream, action, action_with, paren, binary, element, too_many, trees_of, props_of, pairs_of, server, client_is, action_is, json_items_of, json_members_of, joined}
 use Rattle.flight_syntax.specs.Tree as tree
 use Rattle.flight_syntax.specs.Grammar.{most_levels, most_postfixes}
-use Rattle.flight_grammar.specs.Reading.{Fault, Read, Reader, unexpected, too_deep, ◌>>=◌, want, at, next_is, done, both, made, behind, closed, choice, Arm, stop, limit, go, by_word, many, list_until}
+use Rattle.flight_grammar.specs.Reading.{Fault, Reader, too_deep, ◌>>=◌, want, at, next_is, done, both, made, behind, closed, choice, Arm, stop, limit, go, by_word, many, list_until}
 
 -- ---- behind the first word of a production
 

@@ -1,6 +1,5 @@
 -- What a whole list of words is: the one program that it spells, or the first word that no program continues with.
-use Rattle.std.specs.Prelude.{ℕ, ◌≡◌, ◌⊎◌, true, false, Bool, List, [], ◌∷◌, ◌++◌, length, Result, Ok, Err}
-use Rattle.flight_syntax.specs.declared.word.Punctuator.{Punctuator}
+use Rattle.std.specs.Prelude.{◌≡◌, true, false, List, [], ◌∷◌, ◌++◌, length, Result, Ok, Err}
 use Rattle.flight_syntax.specs.Lexicon.{Word, mark, deep, beyond}
 use Rattle.flight_syntax.specs.Tree.{Declaration}
 use Rattle.flight_syntax.specs.Grammar.{DeclaresAll}

@@ -1,12 +1,11 @@
 -- The words and the meaning of `server App(x) = [x, 1];`.
-use Rattle.std.proofs.Common.{◌≡◌, ℕ, zero, suc, ◌<◌, List, [], ◌∷◌, refl, arith, pos, Some, map}
+use Rattle.std.proofs.Common.{◌≡◌, ℕ, zero, suc, ◌<◌, List, [], ◌∷◌, refl, arith, pos, Some}
 use Rattle.std.specs.Prelude.{codes, slice_get}
 use Rattle.flight_value.specs.declared.graph.Atom.TheVariants as value
 use Rattle.flight_syntax.specs.declared.token.TokenKind.TheVariants as kind
-use Rattle.flight_syntax.specs.declared.token.TokenKind.{TokenKind}
 use Rattle.flight_syntax.specs.declared.word.Keyword.TheVariants.{Server}
 use Rattle.flight_syntax.specs.declared.word.Punctuator.TheVariants as signs
-use Rattle.flight_syntax.specs.Lexicon.{Word, Placed, key, lower, upper, number, mark, word_as}
+use Rattle.flight_syntax.specs.Lexicon.{Placed, key, lower, upper, number, mark, word_as}
 use Rattle.flight_syntax.specs.Tree as tree
 use Rattle.flight_syntax.specs.Term as term
 use Rattle.flight_syntax.specs.Scope.{Means}

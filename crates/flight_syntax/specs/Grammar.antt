@@ -1,5 +1,5 @@
 -- The productions: which words spell a tree. The number of a phrase is how many levels of nesting are left.
-use Rattle.std.specs.Prelude.{ℕ, zero, suc, ◌≡◌, ◌<◌, ◌⊎◌, true, false, List, [], ◌∷◌}
+use Rattle.std.specs.Prelude.{ℕ, zero, suc, ◌≡◌, ◌<◌, ◌⊎◌, List, [], ◌∷◌}
 use Rattle.flight_value.specs.declared.graph.Atom.{Atom}
 use Rattle.flight_value.specs.declared.graph.Atom.TheVariants as value
 use Rattle.flight_syntax.specs.declared.word.Keyword.TheVariants.{Date, Symbol, Let, In, If, Then, Else, For, Give, Throw, Map, Set, Use, Promise, Stream, Action, With, Server, Client}
