@@ -11,3 +11,4 @@ pub mod Example
 pub mod Spellings
 pub mod Terms
 pub mod Meanings
+pub mod FirstFaults

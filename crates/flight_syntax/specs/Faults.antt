@@ -159,3 +159,8 @@ earlier fault (Some other) = if nat_lt (place other) (place fault) then Some oth
 abbrev pub first_fault : List NameFault → Option NameFault
 first_fault [] = None
 first_fault (fault ∷ others) = earlier fault (first_fault others)
+
+-- of the first faults of two parts, the one that stands first
+abbrev pub first_of : Option NameFault → Option NameFault → Option NameFault
+first_of None other = other
+first_of (Some fault) other = earlier fault other
