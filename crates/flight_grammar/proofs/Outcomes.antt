@@ -2,7 +2,7 @@
 use Rattle.std.proofs.Common.{◌≡◌, ℕ, Bool, true, false, ◌⊎◌, inl, inr, List, [], ◌∷◌, ◌++◌, length, Some, refl, sym, ap, subst, ◌∙◌, append_assoc}
 use Rattle.flight_syntax.specs.Lexicon.{Word, words_of}
 use Rattle.flight_syntax.specs.Tree.{Declaration}
-use Rattle.flight_syntax.specs.Grammar.{DeclaresAll}
+use Rattle.flight_syntax.specs.Grammar.{most_levels, DeclaresAll}
 use Rattle.flight_syntax.specs.Faults.{NameFault, first_fault, program_faults, has_app}
 use Rattle.std.specs.List.{AllZip}
 use Rattle.flight_syntax.specs.Derives.{Said, SaidAs, IsProgram}
@@ -72,7 +72,7 @@ pub no_stop : (words : List Word) (all : List Declaration) (f : Fault) → Decla
 no_stop words all f d s = s.dead s.bad (alike_self s.bad) all (subst (DeclaresAll all) s.whole d)
 
 pub one_tree : (words : List Word) (all other : List Declaration) → DeclaresAll all words → DeclaresAll other words → all ≡ other
-one_tree words all other d e = ap (λ p. p.0) (ok_is (all, []) (other, []) (sym (again all words d) ∙ again other words e))
+one_tree words all other d e = ap (λ p. p.0) (ok_is (all, []) (other, []) (sym (again most_levels all words d) ∙ again most_levels other words e))
 
 -- ---- one outcome
 

@@ -43,6 +43,16 @@ pub data Word : Type 0 where
   -- a mark that would begin a postfix or an element beyond the limit. No text has it.
   beyond : (sign : Punctuator) → Word
 
+-- a word that some text has
+abbrev pub IsReal : Word → Type 0
+IsReal deep = ⊥
+IsReal (beyond sign) = ⊥
+IsReal _ = Unit {0}
+
+abbrev pub AreReal : List Word → Type 0
+AreReal [] = Unit {0}
+AreReal (word ∷ words) = IsReal word × AreReal words
+
 -- ---- what a token says
 
 -- how a keyword is spelled
