@@ -14,4 +14,6 @@ pub mod Levels
 pub mod Values
 pub mod Programs
 pub mod Outcomes
+pub mod Agree
+pub mod Depth
 pub mod Example

@@ -26,10 +26,10 @@ use Rattle.flight_grammar.proofs.Values.{values}
 
 -- ---- parts of a declaration
 
-abbrev Params : List Placed → Phrase
+abbrev pub Params : List Placed → Phrase
 Params = Lead (is_mark OpenParen) (UntilList (is_mark CloseParen) (one lower_of))
 
-params_part : Exact Params never parameters
+pub params_part : Exact Params never parameters
 params_part =
     after_word (the_mark OpenParen) (list_up_to (exact_want lower_of a_lower) (the_mark CloseParen) (λ a w k. refl) (λ a w k. refl) (at_mark CloseParen comma refl) (refuses_mark CloseParen (want lower_of) tt (λ ws. tt)))
 
@@ -163,7 +163,7 @@ first d a x m = let b = back d a x m in subst (HasHead starts_declaration) (sym 
     by (key Action at) y m = refl
     by _ y m = absurd m
 
-abbrev all_of : ℕ → Reader (List Declaration)
+abbrev pub all_of : ℕ → Reader (List Declaration)
 all_of d = many starts_declaration (declaration_to d)
 
 abbrev on_all : List Declaration → Word → Bool

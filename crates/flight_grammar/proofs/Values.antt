@@ -123,11 +123,14 @@ no_limit : (L : Type 0) (o : Option Json) → IsArm (ScalarBehind o) never ⊥ (
 no_limit L (Some j) h = h
 no_limit L None h = h
 
-values_part : (d : ℕ) (v : Reader Json) → Exact (J d) never v → Refuses at_close v → Exact (Values d) never (list_until (is_mark CloseBracket) v)
+pub values_part : (d : ℕ) (v : Reader Json) → Exact (J d) never v → Refuses at_close v → Exact (Values d) never (list_until (is_mark CloseBracket) v)
 values_part d v h r = list_up_to h (the_mark CloseBracket) (λ a w k. refl) (λ a w k. refl) (at_mark CloseBracket comma refl) r
 
+pub key_part : (d : ℕ) (v : Reader Json) → Exact (J d) never v → Exact (Member d) (λ c. never c.1) (json_key v)
+key_part d v h = word_and a_text (λ n. after_word (the_mark Colon) h)
+
 members_part : (d : ℕ) (v : Reader Json) → Exact (J d) never v → Exact (Members d) never (list_until (is_mark CloseBrace) (json_key v))
-members_part d v h = list_up_to (word_and a_text (λ n. after_word (the_mark Colon) h)) (the_mark CloseBrace) (λ a w k. refl) (λ a w k. refl) (at_mark CloseBrace comma refl) (refuses_mark CloseBrace (json_key v) tt (λ ws. tt))
+members_part d v h = list_up_to (key_part d v h) (the_mark CloseBrace) (λ a w k. refl) (λ a w k. refl) (at_mark CloseBrace comma refl) (refuses_mark CloseBrace (json_key v) tt (λ ws. tt))
 
 json_each : (d : ℕ) (v : Reader Json) → Exact (J d) never v → Refuses at_close v → (w : Word) → IsArm (JsonBehind d w) never (Limit (JsonBehind d) w) (json_arm v w)
 json_each d v h r (mark Minus) = exact_want negative_json_of a_negative_json
