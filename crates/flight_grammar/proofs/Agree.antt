@@ -1,8 +1,8 @@
 -- Readers that read the same, unless the first passes a limit.
-use Rattle.std.proofs.Common.{◌≡◌, ℕ, zero, suc, Bool, true, false, if◌then◌else◌, ◌⊎◌, inl, inr, List, [], ◌∷◌, ◌++◌, length, Option, Some, None, Result, Ok, Err, refl, sym, ap, subst, ◌∙◌}
+use Rattle.std.proofs.Common.{◌≡◌, ℕ, zero, suc, Bool, true, false, if◌then◌else◌, ◌⊎◌, inl, inr, List, [], ◌∷◌, ◌++◌, length, Option, Some, None, Result, Ok, Err, refl, ap, subst, ◌∙◌}
 use Rattle.flight_syntax.specs.declared.word.Punctuator.TheVariants.{Comma}
 use Rattle.flight_syntax.specs.Lexicon.{Word, Phrase, U, is_mark, AreReal}
-use Rattle.flight_grammar.specs.Reading.{Fault, Read, Reader, ◌>>=◌, taken, want, at, next_is, done, paired, both, made, behind, closed, choice, Arm, stop, limit, go, by_arm, by_word, consed, many_by, many, more, first_and, some_until, list_until}
+use Rattle.flight_grammar.specs.Reading.{Fault, Read, Reader, ◌>>=◌, taken, want, at, next_is, done, paired, both, made, behind, closed, choice, Arm, stop, limit, go, by_arm, by_word, consed, many_by, many, first_and, list_until}
 use Rattle.flight_grammar.proofs.Exact.{Exact, ok_is}
 
 abbrev pub IsTooDeep : {A : Type 0} → Result A Fault → Type 0

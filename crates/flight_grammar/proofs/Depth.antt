@@ -1,15 +1,14 @@
 -- Readers of more levels read the same, unless one of fewer passes its limit.
-use Rattle.std.proofs.Common.{◌≡◌, ℕ, zero, suc, ◌≤◌, Bool, true, false, ◌⊎◌, inl, inr, List, [], ◌∷◌, ◌++◌, Option, Some, None, Result, Ok, Err, refl, sym, ap, subst, ◌∙◌, arith}
+use Rattle.std.proofs.Common.{◌≡◌, ℕ, zero, suc, ◌≤◌, false, inr, List, [], ◌∷◌, Some, None, refl, arith}
 use Rattle.json.specs.Json as json
 use Rattle.json.specs.Json.{Json}
-use Rattle.flight_value.specs.declared.graph.Atom.{Atom}
-use Rattle.flight_syntax.specs.declared.word.Keyword.TheVariants.{Let, In, If, Then, Else, For, Give, Throw, Map, Set, Use, Promise, Stream, Action, Date, Symbol, Server, Client, With}
-use Rattle.flight_syntax.specs.declared.word.Punctuator.TheVariants.{OpenParen, CloseParen, OpenBracket, CloseBracket, OpenBrace, CloseBrace, Comma, Colon, Semicolon, Dot, Assign, Minus, Less, Greater, LessSlash, SlashGreater}
-use Rattle.flight_syntax.specs.Lexicon.{Word, key, lower, upper, number, big, literal, mark, deep, beyond, Placed, Phrase, U, is_key, is_mark, is_deep, name_of, lower_of, upper_of, plain_of, component_of, text_of, property_of, constant_of, operator_of, json_of, AreReal}
-use Rattle.flight_syntax.specs.Tree.{Tree, Declaration, let_in, if_else, for_in, throw, array, object, map, set, trees_of, props_of, pairs_of, server, client_is, action_is, json_items_of, json_members_of}
-use Rattle.flight_syntax.specs.Grammar.{most_levels, most_postfixes, DeclaresTo, DeclaresAllTo}
-use Rattle.flight_grammar.specs.Reading.{Fault, Read, Reader, ◌>>=◌, Arm, stop, limit, go, at, next_is, want, done, both, made, behind, closed, choice, by_word, many}
-use Rattle.flight_grammar.specs.Reader.{let_rest, if_rest, for_rest, items, property, properties, entry, entries, with_rest, action_rest, operand, paren_rest, bare, given, more_parts, attribute_of, attribute, attributes, starts_given, starts_child, child, children, closing, inside_of, inside, element_of, element_rest, action_of, paren_of, named_and, indexed_and, starts_post, last_post_arm, post_arm, posts, chain_of, chain_arm, atom_arm, constant_arm, level_arm, element_arm, no_element_arm, no_expression, level, expression, child_element, json_key, scalar_arm, json_arm, no_json, json_value, parameters, body_to, import_to, declaration_arm_to, declaration_to, starts_declaration, ended, program_to}
+use Rattle.flight_syntax.specs.declared.word.Keyword.TheVariants.{Let, In, If, Then, Else, For, Give, Throw, Map, Set, Action, Server, Client, With}
+use Rattle.flight_syntax.specs.declared.word.Punctuator.TheVariants.{OpenParen, CloseParen, OpenBracket, CloseBracket, OpenBrace, CloseBrace, Comma, Colon, Semicolon, Dot, Assign, Minus, Less, Greater, SlashGreater}
+use Rattle.flight_syntax.specs.Lexicon.{Word, key, mark, deep, beyond, Phrase, is_key, is_mark, is_deep, name_of, lower_of, plain_of, component_of, text_of, property_of, operator_of, AreReal}
+use Rattle.flight_syntax.specs.Tree.{Tree, let_in, if_else, for_in, throw, array, object, map, set, trees_of, props_of, pairs_of, server, client_is, action_is, json_items_of, json_members_of}
+use Rattle.flight_syntax.specs.Grammar.{most_postfixes, DeclaresTo}
+use Rattle.flight_grammar.specs.Reading.{Reader, Arm, stop, limit, go, at, next_is, want, done, made, behind, closed, choice, by_word}
+use Rattle.flight_grammar.specs.Reader.{let_rest, if_rest, for_rest, items, property, properties, entry, entries, action_rest, paren_rest, bare, given, more_parts, attribute_of, attribute, attributes, starts_given, starts_child, child, children, closing, inside_of, element_of, element_rest, action_of, paren_of, named_and, indexed_and, starts_post, last_post_arm, post_arm, posts, chain_of, chain_arm, atom_arm, level_arm, element_arm, no_element_arm, no_expression, level, expression, child_element, json_key, json_arm, no_json, json_value, parameters, body_to, declaration_arm_to, declaration_to, starts_declaration}
 use Rattle.flight_grammar.proofs.Exact.{Exact, never}
 use Rattle.flight_grammar.proofs.Parts.{IsArm}
 use Rattle.flight_grammar.proofs.Choices.{Trail, up_to}
@@ -22,7 +21,7 @@ use Rattle.flight_grammar.proofs.Atoms.{after_atom, AtomBehind, atom_each}
 use Rattle.flight_grammar.proofs.Levels.{levels}
 use Rattle.flight_grammar.proofs.Values.{values, key_part}
 use Rattle.flight_grammar.proofs.Programs.{Params, params_part, exact_declaration, all_of}
-use Rattle.flight_grammar.proofs.Agree.{IsTooDeep, Same, Agree, Keeps, keeps, keeps_want, agree_self, agree_both, agree_made, agree_behind, agree_closed, agree_choice, AgreeArm, same_arm, agree_word, agree_many, agree_list}
+use Rattle.flight_grammar.proofs.Agree.{IsTooDeep, Agree, Keeps, keeps, keeps_want, agree_self, agree_both, agree_made, agree_behind, agree_closed, agree_choice, AgreeArm, same_arm, agree_word, agree_many, agree_list}
 
 -- two levels, the first of which is exact
 record Two (d : ℕ) (e c f g : Reader Tree) : Type 0 where
@@ -151,8 +150,7 @@ agree_levels zero (suc k) h = (no_word no_expression (by_word (level_arm (expres
 agree_levels (suc d) zero h = absurd (omega (arith, h))
 agree_levels (suc d) (suc k) h =
     let again = agree_levels d k (omega (arith, h)) in
-    let two : Two d (expression d) (child_element d) (expression k) (child_element k) = record { below = levels d; whole = again.0; nested = again.1 } in
-    (
+    let two : Two d (expression d) (child_element d) (expression k) (child_element k) = record { below = levels d; whole = again.0; nested = again.1 } in (
       agree_word (level_arm (expression d) (child_element d)) (level_arm (expression k) (child_element k)) (λ w r. agree_level d (expression d) (child_element d) (expression k) (child_element k) two w),
       agree_word (element_arm (expression d) (child_element d)) (element_arm (expression k) (child_element k)) (λ w r. agree_elements d (expression d) (child_element d) (expression k) (child_element k) two w),
     )

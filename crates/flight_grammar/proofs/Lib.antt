@@ -16,4 +16,5 @@ pub mod Programs
 pub mod Outcomes
 pub mod Agree
 pub mod Depth
+pub mod AnyDepth
 pub mod Example

@@ -17,10 +17,10 @@ use Rattle.flight_grammar.proofs.Programs.{again}
 -- ---- one place
 
 -- two ways to cut one list
-abbrev Cuts : (a x b y : List Word) → Type 0
+abbrev pub Cuts : (a x b y : List Word) → Type 0
 Cuts a x b y = ((a ≡ b) × (x ≡ y)) ⊎ (((w : Word) × (m : List Word) × (x ≡ w ∷ (m ++ y)) × (b ≡ a ++ w ∷ m)) ⊎ ((w : Word) × (m : List Word) × (y ≡ w ∷ (m ++ x)) × (a ≡ b ++ w ∷ m)))
 
-cut : (a x b y : List Word) → a ++ x ≡ b ++ y → Cuts a x b y
+pub cut : (a x b y : List Word) → a ++ x ≡ b ++ y → Cuts a x b y
 cut [] x [] y e = inl (refl, e)
 cut [] x (w ∷ b) y e = inr (inl (w, b, e, refl))
 cut (w ∷ a) x [] y e = inr (inr (w, a, sym e, refl))
@@ -39,7 +39,7 @@ alike_self [] = tt
 alike_self (w ∷ ws) = refl
 
 -- a program does not go on past the place where another stop is
-past : (words : List Word) (f : Fault) (s : StopsAt words f) (all : List Declaration) (w : Word) (m y rest : List Word) → s.bad ≡ w ∷ (m ++ y) → DeclaresAll all ((s.before ++ w ∷ m) ++ rest) → ⊥
+pub past : (words : List Word) (f : Fault) (s : StopsAt words f) (all : List Declaration) (w : Word) (m y rest : List Word) → s.bad ≡ w ∷ (m ++ y) → DeclaresAll all ((s.before ++ w ∷ m) ++ rest) → ⊥
 past words f s all w m y rest e d =
     s.dead (w ∷ (m ++ rest)) (subst (λ z. Alike z (w ∷ (m ++ rest))) (sym e) refl) all (subst (DeclaresAll all) (append_assoc s.before (w ∷ m) rest) d)
 

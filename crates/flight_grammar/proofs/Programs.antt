@@ -166,10 +166,10 @@ first d a x m = let b = back d a x m in subst (HasHead starts_declaration) (sym 
 abbrev pub all_of : ℕ → Reader (List Declaration)
 all_of d = many starts_declaration (declaration_to d)
 
-abbrev on_all : List Declaration → Word → Bool
+abbrev pub on_all : List Declaration → Word → Bool
 on_all = goes_on starts_declaration never
 
-exact_all : (d : ℕ) → Exact (Many (DeclaresTo d)) on_all (all_of d)
+pub exact_all : (d : ℕ) → Exact (Many (DeclaresTo d)) on_all (all_of d)
 exact_all d = exact_many (DeclaresTo d) starts_declaration never (declaration_to d) (record { first = first d; apart = λ a w k. refl; meek = record { at_deep = refl; at_beyond = λ m k. refl }; eager = eager d }) (exact_declaration d)
 
 -- ---- what the words come to
