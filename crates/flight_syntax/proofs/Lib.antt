@@ -12,3 +12,5 @@ pub mod Spellings
 pub mod Terms
 pub mod Meanings
 pub mod FirstFaults
+pub mod Dates
+pub mod RealWords
