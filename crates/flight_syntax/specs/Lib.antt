@@ -10,3 +10,4 @@ pub mod Derives
 pub mod Grammar
 pub mod Literal
 pub mod Faults
+pub mod Meaning
