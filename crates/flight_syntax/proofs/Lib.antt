@@ -12,5 +12,6 @@ pub mod Spellings
 pub mod Terms
 pub mod Meanings
 pub mod FirstFaults
+pub mod Known
 pub mod Dates
 pub mod RealWords

@@ -20,17 +20,17 @@ use Rattle.flight_syntax.specs.Derives.{Said, server, client, action, SaidAs}
 some_is : {A : Type 0} (a b : A) → Some a ≡ Some b → a ≡ b
 some_is a b e = cc
 
-bytes_is : (a b : List ℕ) → bytes_eq a b ≡ true → a ≡ b
+pub bytes_is : (a b : List ℕ) → bytes_eq a b ≡ true → a ≡ b
 bytes_is a b e = grind (arith, bytes_eq-Decides)
 
-bytes_same : (a b : List ℕ) → a ≡ b → bytes_eq a b ≡ true
+pub bytes_same : (a b : List ℕ) → a ≡ b → bytes_eq a b ≡ true
 bytes_same a b e = grind (arith, bytes_eq-Decides)
 
 either_true : (b c : Bool) → c ≡ true → (if b then true else c) ≡ true
 either_true true c e = refl
 either_true false c e = e
 
-occurs_at : (named : List ℕ) (scope : List (List ℕ)) (k : ℕ) → slice_get scope k ≡ Some named → occurs named scope ≡ true
+pub occurs_at : (named : List ℕ) (scope : List (List ℕ)) (k : ℕ) → slice_get scope k ≡ Some named → occurs named scope ≡ true
 occurs_at named [] k e = absurd cc
 occurs_at named (n ∷ scope) zero e = rw (bytes_same n named (some_is n named e)) refl
 occurs_at named (n ∷ scope) (suc k) e = either_true (bytes_eq n named) (occurs named scope) (occurs_at named scope k e)
