@@ -13,5 +13,6 @@ pub mod Terms
 pub mod Meanings
 pub mod FirstFaults
 pub mod Known
+pub mod Whole
 pub mod Dates
 pub mod RealWords
