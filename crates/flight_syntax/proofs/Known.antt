@@ -18,11 +18,11 @@ use Rattle.flight_syntax.proofs.Meanings.{bytes_is, occurs_at}
 
 -- ---- lists and tests
 
-nil_left : {A : Type 0} (a b : List A) → a ++ b ≡ [] → a ≡ []
+pub nil_left : {A : Type 0} (a b : List A) → a ++ b ≡ [] → a ≡ []
 nil_left [] b e = refl
 nil_left (x ∷ a) b e = absurd cc
 
-nil_right : {A : Type 0} (a b : List A) → a ++ b ≡ [] → b ≡ []
+pub nil_right : {A : Type 0} (a b : List A) → a ++ b ≡ [] → b ≡ []
 nil_right [] b e = e
 nil_right (x ∷ a) b e = absurd cc
 

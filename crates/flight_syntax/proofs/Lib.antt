@@ -14,5 +14,6 @@ pub mod Meanings
 pub mod FirstFaults
 pub mod Known
 pub mod Whole
+pub mod Bodies
 pub mod Dates
 pub mod RealWords
