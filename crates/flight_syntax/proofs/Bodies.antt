@@ -1,5 +1,5 @@
 -- Where the words of a text spell declarations without a fault, each body means its term.
-use Rattle.std.proofs.Common.{◌≡◌, ℕ, List, [], ◌∷◌, ◌++◌}
+use Rattle.std.proofs.Common.{◌≡◌, ℕ, List, [], ◌∷◌}
 use Rattle.flight_syntax.specs.declared.token.Token.{Token}
 use Rattle.flight_syntax.specs.Lexicon.{words_of}
 use Rattle.flight_syntax.specs.Tree as tree

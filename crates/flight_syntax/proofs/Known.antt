@@ -1,7 +1,6 @@
 -- A tree without faults means its term.
 use Rattle.std.proofs.Common.{◌≡◌, ℕ, zero, suc, ◌<◌, Bool, true, false, ◌⊎◌, inl, inr, List, [], ◌∷◌, ◌++◌, map, Option, Some, None, refl, sym, ap, subst, ◌∙◌, arith, if◌then◌else◌, codes}
 use Rattle.std.specs.Prelude.{slice_get, ◌||◌, option_map}
-use Rattle.std.specs.List.{list_any}
 use Rattle.std.specs.Str.{bytes_eq}
 use Rattle.std.proofs.lemmas.Bool.{false≢true}
 use Rattle.flight_syntax.specs.declared.expr.Tag.{Tag}
@@ -10,9 +9,8 @@ use Rattle.flight_syntax.specs.Names.{is_lower}
 use Rattle.flight_syntax.specs.Lexicon.{Placed}
 use Rattle.flight_syntax.specs.Tree as tree
 use Rattle.flight_syntax.specs.Tree.{Tree, Trees, TreeProps, TreePairs, Declaration}
-use Rattle.flight_syntax.specs.Term as term
 use Rattle.flight_syntax.specs.Scope.{IsInnermost, is_server, is_client, is_action, number_of, server_number, client_number, action_number, component_tag, tag_of, Means, MeansEach, MeansProps, MeansPairs}
-use Rattle.flight_syntax.specs.Faults.{NameFault, is_named, clients, servers, components, actions, property_names, is_tag, unless_known, repeated, beside_children, keys_of, faults, faults_each, faults_props, faults_pairs}
+use Rattle.flight_syntax.specs.Faults.{is_named, clients, servers, components, actions, property_names, is_tag, unless_known, repeated, beside_children, keys_of, faults, faults_each, faults_props, faults_pairs}
 use Rattle.flight_syntax.specs.Meaning.{occurs, innermost, given, given_tag, meaning, meanings, meaning_props, meaning_pairs}
 use Rattle.flight_syntax.proofs.Meanings.{bytes_is, occurs_at}
 

@@ -1,18 +1,16 @@
 -- A tree means one term.
-use Rattle.std.proofs.Common.{◌≡◌, ℕ, zero, suc, Bool, true, false, List, [], ◌∷◌, ◌++◌, Option, Some, None, refl, sym, ap, subst, ◌∙◌, arith, if◌then◌else◌}
+use Rattle.std.proofs.Common.{◌≡◌, ℕ, zero, suc, Bool, true, false, List, [], ◌∷◌, ◌++◌, Some, refl, sym, ap, subst, ◌∙◌, arith, if◌then◌else◌}
 use Rattle.std.specs.Prelude.{slice_get}
 use Rattle.std.specs.List.{AllZip}
 use Rattle.std.specs.Str.{bytes_eq}
 use Rattle.std.proofs.lemmas.Slice.Eq.{bytes_eq-Decides}
 use Rattle.serde_json.specs.Written.{compact_text}
-use Rattle.flight_syntax.specs.declared.expr.Tag.{Tag}
-use Rattle.flight_syntax.specs.declared.expr.Tag.TheVariants.{Suspense}
 use Rattle.flight_syntax.specs.Tree as tree
 use Rattle.flight_syntax.specs.Tree.{Tree, Trees, TreeProps, TreePairs, Declaration}
 use Rattle.flight_syntax.specs.Term as term
 use Rattle.flight_syntax.specs.Term.{Term, Terms, Props, Pairs}
 use Rattle.flight_syntax.specs.Meaning.{occurs, innermost, given, given_tag, meaning, meanings, meaning_props, meaning_pairs}
-use Rattle.flight_syntax.specs.Scope.{IsInnermost, client_number, action_number, tag_of, Means, MeansEach, MeansProps, MeansPairs}
+use Rattle.flight_syntax.specs.Scope.{IsInnermost, action_number, tag_of, Means, MeansEach, MeansProps, MeansPairs}
 use Rattle.flight_syntax.specs.Derives.{Said, server, client, action, SaidAs}
 
 -- ---- variables

@@ -1,9 +1,9 @@
 -- What the words of a text spell has nothing that is too deep.
-use Rattle.std.proofs.Common.{◌≡◌, ℕ, zero, suc, ◌⊎◌, inl, inr, List, [], ◌∷◌, ◌++◌, Option, Some, None, refl, sym, ap, subst, ◌∙◌}
+use Rattle.std.proofs.Common.{◌≡◌, ℕ, zero, suc, ◌⊎◌, inl, inr, List, [], ◌∷◌, ◌++◌, Some, sym, subst}
 use Rattle.flight_value.specs.declared.graph.Atom.TheVariants as value
 use Rattle.flight_syntax.specs.declared.token.Token.{Token}
 use Rattle.flight_syntax.specs.declared.word.Punctuator.TheVariants.{Dot, OpenBracket, OpenBrace, CloseBrace, Less, Greater, LessSlash, SlashGreater}
-use Rattle.flight_syntax.specs.Lexicon.{Word, Placed, Phrase, ◌▸◌, one, sign, is_plain, deep, beyond, AreReal, IsReal, is_deep, words_of}
+use Rattle.flight_syntax.specs.Lexicon.{Word, Placed, Phrase, ◌▸◌, one, sign, is_plain, deep, AreReal, IsReal, is_deep, words_of}
 use Rattle.flight_syntax.specs.Tree as tree
 use Rattle.flight_syntax.specs.Tree.{Tree, Trees, TreeProps, TreePairs, Declaration, IsElement}
 use Rattle.flight_syntax.specs.Grammar.{Bare, Beyond, Spells, Listed, MoreListed, Properties, MoreProperties, Entries, MoreEntries, Attributes, Children, DeclaresTo, DeclaresAllTo}
@@ -137,7 +137,6 @@ mutual
   children_whole : (l : Trees) (d : ℕ) (x : List Word) → AreReal x → Children l d x → AreWhole l
   children_whole tree.no_trees d x r m = tt
   children_whole (tree.tree_and t l) d x r m = (child_whole t d m.0 (left m.0 m.1 m.2 r) m.3 (λ y k n. whole t d y k n), children_whole l d m.1 (right m.0 m.1 m.2 r) m.4)
-
 
 -- ---- programs
 
