@@ -1,4 +1,5 @@
 pub mod Examples
+pub mod Rendering
 pub mod Grows
 pub mod Names
 pub mod Larger
