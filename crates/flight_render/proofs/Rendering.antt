@@ -1,12 +1,10 @@
 -- A whole rendering: `server App() = <Item/>; server Item() = "x";`.
-use Rattle.std.proofs.Common.{◌≡◌, ℕ, Bool, true, false, cond, List, [], ◌∷◌, length, Option, Some, None, refl, sym, ap, ap₂, ◌∙◌, subst, inl, inr}
+use Rattle.std.proofs.Common.{◌≡◌, cond, [], ◌∷◌, Some, None, refl, ap, ◌∙◌}
 use Rattle.std.specs.Prelude.{codes, option_map}
 use Rattle.flight_value.specs.Store as target
 use Rattle.flight_value.specs.Store.{Target}
 use Rattle.flight_value.specs.declared.graph.Atom.TheVariants as atom
-use Rattle.flight_value.specs.declared.key.Key.{Key}
 use Rattle.flight_value.specs.declared.made.MadeKind.TheVariants as kind
-use Rattle.flight_value.specs.declared.made.Made.{Made}
 use Rattle.flight_value.specs.declared.made.Tree.{Tree}
 use Rattle.flight_value.specs.declared.made.Tree.TheVariants as tree
 use Rattle.flight_value.specs.declared.name.Name.{Name}
@@ -17,11 +15,10 @@ use Rattle.flight_syntax.specs.Term as term
 use Rattle.flight_syntax.specs.Term.{Term, term as term_of}
 use Rattle.flight_render.specs.declared.root.Ground.{Ground}
 use Rattle.flight_render.specs.declared.root.Root.TheVariants as root
-use Rattle.flight_render.specs.Run.{Machine, Step, gave, threw, waits, Run}
-use Rattle.flight_render.specs.Body.{Start, run_start, body, root_body}
+use Rattle.flight_render.specs.Run.{gave, Run}
+use Rattle.flight_render.specs.Body.{run_start, body, root_body}
 use Rattle.flight_render.specs.Bodies.{body_at, node_at, body_below, made_by, finished}
-use Rattle.flight_render.specs.Jobs.{Job, the_root, element, Value, shown, of_job, is_server, job_of, comes, Leads, Stands}
-use Rattle.flight_render.specs.Costs.{Reached, at_root, through, Rendered}
+use Rattle.flight_render.specs.Jobs.{the_root, element, shown, of_job, is_server, comes, Stands}
 
 -- the program, with any two expressions that say so
 module _ (first second : Expr) (app : term_of first ≡ term.element (tag.Server 1) term.no_props term.no_terms) (item : term_of second ≡ term.atom (atom.Text (codes "x"))) where
@@ -74,10 +71,17 @@ module _ (first second : Expr) (app : term_of first ≡ term.element (tag.Server
       record {
         jobs = the_root ∷ element name ∷ [];
         last = shown (tree.Atom (atom.Text (codes "x")));
-        leads =
-          (refl, (gave (tree.Made name), ap (option_map (λ b. b.step)) at_first,
-            (ap (λ o. cond (is_server o) (Some (element name)) None) is_element,
-              (gave (tree.Atom (atom.Text (codes "x"))), ap (option_map (λ b. b.step)) at_second, refl))));
+        leads = (
+          refl,
+          (
+            gave (tree.Made name),
+            ap (option_map (λ b. b.step)) at_first,
+            (
+              ap (λ o. cond (is_server o) (Some (element name)) None) is_element,
+              (gave (tree.Atom (atom.Text (codes "x"))), ap (option_map (λ b. b.step)) at_second, refl),
+            ),
+          ),
+        );
         no_job = refl;
         is_target = refl;
       }

@@ -76,7 +76,7 @@ pub fn totals()
 /// a value leads to has its shape.
 pub fn made_well()
     ensures bodies { (g : Ground) → IsValidGround g → (settled : List Bool) (address : List ℕ) (b : Run Tree) → body_at g settled address ≡ Some b → BodyMade g (tables_at g settled address) b }
-    ensures nodes { (g : Ground) → IsValidGround g → (settled : List Bool) (n : Name) (m : Made) → node_at g settled n ≡ Some m → AllByRecursion (IsKnown g settled) m.slots × ((tables : List (List Made)) × MadeWell g tables m.kind m.slots) }
+    ensures nodes { (g : Ground) → IsValidGround g → (settled : List Bool) (n : Name) (m : Made) → node_at g settled n ≡ Some m → AllByRecursion (IsKnown g settled) m.slots × MadeWell g (node_at g settled) m.kind m.slots }
     ensures tables { (g : Ground) → IsValidGround g → (settled : List Bool) (n : Name) (tables : List (List Made)) → TabledFor g settled n tables → AreTables g (inner n) tables × (made_in tables n ≡ node_at g settled n) }
     ensures reached { (g : Ground) → IsValidGround g → (settled : List Bool) (v : Value) → Reached g settled v → ShowsKnown g settled v }
     ensures closed { (g : Ground) → IsValidGround g → (settled : List Bool) (v : Value) → Reached g settled v → job_of g settled v ≡ None → (k : Key) → IsTarget g settled v (node_at_key k) → (shape : Shape Value) × NodeIs g settled k shape }
@@ -91,5 +91,4 @@ pub fn charges()
 pub fn waits_right()
     ensures rendered { (g : Ground) (settled : List Bool) (address : List ℕ) (b : Run Tree) (source : ℕ) → body_at g settled address ≡ Some b → b.step ≡ waits source → (is_settled settled source ≡ false) × (source < length g.script.sources) }
     ensures component { (g : Ground) (settled : List Bool) (tables : List (List Made)) (number : ℕ) (props : Tree) (address : List ℕ) (source : ℕ) → (body g settled tables number props address).step ≡ waits source → (is_settled settled source ≡ false) × (source < length g.script.sources) }
-{
-}
+{}
