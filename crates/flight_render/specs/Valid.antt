@@ -1,4 +1,4 @@
--- Which grounds are valid, which nodes a body makes, and which jobs belong to a ground.
+-- Which programs with their data are valid, which nodes a body makes, and which jobs belong to them.
 use Rattle.std.specs.Prelude.{ℕ, suc, ◌+◌, ◌-◌, ◌^◌, ◌≡◌, ◌≢◌, ◌<◌, ◌≤ℤ◌, pos, negsuc, Bool, true, List, [], ◌∷◌, ◌++◌, length, Some, slice_get, All, codes, is_some, Option}
 use Rattle.std.specs.List.{AllByRecursion}
 use Rattle.flight_value.specs.Date.{IsDate}
@@ -125,7 +125,7 @@ abbrev mutual
   PairsLawful g scope term.no_pairs = Unit {0}
   PairsLawful g scope (term.pair_and key value rest) = IsLawful g scope key × IsLawful g scope value × PairsLawful g scope rest
 
--- ---- grounds
+-- ---- programs with their data
 
 abbrev pub IsDeclared : Ground → Declared → Type 0
 IsDeclared g (declared.Server name params body) = NoneTwice params × IsLawful g (length params) (term_of body)
@@ -263,7 +263,7 @@ IsWhat g address (what.Known slot) = (address ≡ []) × IsArgument g.root slot
 IsWhat g address (what.Item stream index) = (address ≡ []) × ((f : Flowing) × (slice_get g.script.streams stream ≡ Some f) × (index < length f.items))
 IsWhat g address (what.Last stream) = (address ≡ []) × (stream < length g.script.streams)
 
--- a job of a ground: its numbers are in range, and its element is one of its tables
+-- a job that belongs: its numbers are in range, and its element is one of its tables
 pub record Belongs (g : Ground) (job : Job) : Type 0 where
   pub is_what : IsWhat g job.address job.what
   pub seen : length job.seen.settled ≡ length g.script.sources
