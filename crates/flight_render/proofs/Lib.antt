@@ -13,3 +13,4 @@ pub mod Well
 pub mod There
 pub mod Closed
 pub mod Idle
+pub mod Attempted

@@ -16,6 +16,8 @@ ghost use Rattle.flight_render.specs.Bodies.{inner, element_of, next_body, body_
 ghost use Rattle.flight_render.specs.Jobs.{Job, element, Value, IsFinal, job_of, comes, value_of, Leads, IsTarget, Stands};
 ghost use Rattle.flight_render.specs.Plain.{NodeIs};
 ghost use Rattle.flight_render.specs.Costs.{In, Reached, Stops, Rendered, Total, TotalOver};
+ghost use Rattle.flight_render.specs.declared.job.What.{What};
+ghost use Rattle.flight_render.specs.Attempt.{job_for, run_for, IsTabled};
 ghost use Rattle.flight_render.specs.Valid.{IsValidGround, MadeWell, AreTables, BodyMade, IsKnown, ShowsKnown};
 ghost use Rattle.flight_render.specs.Laws.{Grows, Stays, Own, LeadBack, TablesLeadBack, NamesBack, IsLasting};
 
@@ -52,10 +54,11 @@ pub fn names_lead_back()
 {}
 
 /// The body of a server element is that of its component, with the tables of what the bodies on the way to it
-/// made. What an attempt with these tables finds under fewer settled sources, its job comes to.
+/// made. What an attempt with these tables finds under fewer settled sources, its job comes to; so it is with a task of any kind.
 pub fn attempts()
     ensures same { (g : Ground) (settled : List Bool) (n : Name) → body_at g settled (inner n) ≡ next_body g settled (tables_for g settled n) (inner n) (element_of (node_at g settled n)) }
     ensures gives { (g : Ground) (few many : List Bool) → Grows few many → (n : Name) (tables : List (List Made)) (b : Run Tree) → TabledFor g many n tables → next_body g few tables (inner n) (element_of (node_at g many n)) ≡ Some b → Stays many b.step → comes g many (element n) ≡ Some b.step }
+    ensures task { (g : Ground) → IsValidGround g → (few many : List Bool) → Grows few many → (what : What) → IsTabled g many what → Stays many (run_for g few what).step → comes g many (job_for g what) ≡ Some (run_for g few what).step }
 {}
 
 /// A chain never comes back to a job, and ends. What is reached stands for one slot.
@@ -66,9 +69,10 @@ pub fn chains()
     ensures node { (g : Ground) (settled : List Bool) (k : Key) (shape other : Shape Value) → NodeIs g settled k shape → NodeIs g settled k other → shape ≡ other }
 {}
 
-/// A total is one number. Bodies whose costs exceed the fuel together take it over the fuel.
+/// A total is one number, and no less than any cost in it. Bodies whose costs exceed the fuel together take it over the fuel.
 pub fn totals()
     ensures one { (g : Ground) (settled : List Bool) (total other : ℕ) → Total g settled total → Total g settled other → total ≡ other }
+    ensures within { (g : Ground) (settled : List Bool) (total : ℕ) (address : List ℕ) (cost : ℕ) → Total g settled total → Rendered g settled address cost → cost ≤ total }
     ensures over { (g : Ground) (settled : List Bool) (total fuel : ℕ) → Total g settled total → TotalOver g settled fuel → fuel < total }
 {}
 
