@@ -14,3 +14,4 @@ pub mod There
 pub mod Closed
 pub mod Idle
 pub mod Attempted
+pub mod Dearer

@@ -15,17 +15,18 @@ ghost use Rattle.flight_render.specs.Body.{body, root_body};
 ghost use Rattle.flight_render.specs.Bodies.{inner, element_of, next_body, body_at, node_at, tables_at, tables_for, TabledFor};
 ghost use Rattle.flight_render.specs.Jobs.{Job, element, Value, IsFinal, job_of, comes, value_of, Leads, IsTarget, Stands};
 ghost use Rattle.flight_render.specs.Plain.{NodeIs};
-ghost use Rattle.flight_render.specs.Costs.{In, Reached, Stops, Rendered, Total, TotalOver};
+ghost use Rattle.flight_render.specs.Costs.{In, Reached, Stops, Rendered, Total, TotalOver, IsOver};
 ghost use Rattle.flight_render.specs.declared.job.What.{What};
 ghost use Rattle.flight_render.specs.Attempt.{job_for, run_for, IsTabled};
 ghost use Rattle.flight_render.specs.Valid.{IsValidGround, MadeWell, AreTables, BodyMade, IsKnown, ShowsKnown};
 ghost use Rattle.flight_render.specs.Laws.{Grows, Stays, Own, LeadBack, TablesLeadBack, NamesBack, IsLasting};
 
 /// A body that finishes, or that waits for a source which still is not settled, is the same with more sources
-/// settled, nodes and costs included.
+/// settled, nodes and costs included. More settled sources never lower the cost of a body.
 pub fn larger_bodies()
     ensures component { (g : Ground) (few many : List Bool) → Grows few many → (tables : List (List Made)) (number : ℕ) (props : Tree) (address : List ℕ) → Stays many (body g few tables number props address).step → body g many tables number props address ≡ body g few tables number props address }
     ensures first { (g : Ground) (few many : List Bool) → Grows few many → Stays many (root_body g few).step → root_body g many ≡ root_body g few }
+    ensures cost { (g : Ground) (few many : List Bool) → Grows few many → (tables : List (List Made)) (number : ℕ) (props : Tree) (address : List ℕ) → (body g few tables number props address).after.cost ≤ (body g many tables number props address).after.cost }
 {}
 
 /// Rendering only gains with more sources settled.
@@ -43,6 +44,7 @@ pub fn larger_rendering()
     ensures stands { (g : Ground) → IsValidGround g → (few many : List Bool) → Grows few many → (v : Value) → Reached g few v → (t : Target Key) → Stands g few v t → (t ≡ target Pending → ⊥) → Stands g many v t }
     ensures stops { (g : Ground) (few many : List Bool) → Grows few many → (source : ℕ) → is_settled many source ≡ false → Stops g few source → Stops g many source }
     ensures total { (g : Ground) (few many : List Bool) → Grows few many → (less more : ℕ) → Total g few less → Total g many more → less ≤ more }
+    ensures over { (g : Ground) (few many : List Bool) → Grows few many → (fuel : ℕ) → IsOver g few fuel → IsOver g many fuel }
 {}
 
 /// A body names only its own lesser nodes, and nodes that were made at proper prefixes of its address before
