@@ -84,9 +84,9 @@ none_among (n ∷ ns) x h = rw (other n.now x (bytes_eq n.now x) refl (h zero n 
 apart_at : (ns : List (Bor (List ℕ))) (x : List ℕ) (i : ℕ) → IsPartitionPoint (λ y. slice_cmp nat_cmp y.now x ≡ Less) (λ y. slice_cmp nat_cmp y.now x ≡ Greater) ns i
     → (k : ℕ) (d : Bor (List ℕ)) → k < length ns → slice_cmp nat_cmp (slice_index_or ns k d).now x ≢ Equal
 apart_at ns x i h k d within same = elim (cases_lt k i) [
-    | inl before ↦ less≢equal (sym (h.0 k d (omega arith) before) ∙ same)
-    | inr behind ↦ less≢equal (greater_is (sym (h.1 k d (omega arith) within) ∙ same))
-  ]
+  | inl before ↦ less≢equal (sym (h.0 k d (omega arith) before) ∙ same)
+  | inr behind ↦ less≢equal (greater_is (sym (h.1 k d (omega arith) within) ∙ same))
+]
 
 pub not_found : (ns : List (Bor (List ℕ))) (x : List ℕ) (i : ℕ) → Ascend (map (λ n. n.now) ns)
     → (IsNonDecreasingBy (λ y. ordering_index (slice_cmp nat_cmp y.now x)) ns → IsPartitionPoint (λ y. slice_cmp nat_cmp y.now x ≡ Less) (λ y. slice_cmp nat_cmp y.now x ≡ Greater) ns i) → is_among (map (λ n. n.now) ns) x ≡ false

@@ -7,3 +7,5 @@ pub mod Finding
 pub mod Settling
 pub mod Naming
 pub mod Assembling
+pub mod Seeing
+pub mod Once

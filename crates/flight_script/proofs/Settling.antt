@@ -32,10 +32,10 @@ among_other : (xs : List (List ℕ)) (x n : List ℕ) → x ≢ n → is_among (
 among_other [] x n h = rw (not_same x n (bytes_eq x n) refl h) refl
 among_other (y ∷ xs) x n h = ap (λ b. bytes_eq y n || b) (among_other xs x n h)
 
-apart : (a b : List ℕ) → slice_cmp nat_cmp a b ≡ Less → a ≢ b
+pub apart : (a b : List ℕ) → slice_cmp nat_cmp a b ≡ Less → a ≢ b
 apart a b less same = less≢equal (sym less ∙ equal_from_same a b same)
 
-below_get : (n : List ℕ) (ns : List (List ℕ)) (i : ℕ) (x : List ℕ) → AllByRecursion (λ y. slice_cmp nat_cmp n y ≡ Less) ns → slice_get ns i ≡ Some x → slice_cmp nat_cmp n x ≡ Less
+pub below_get : (n : List ℕ) (ns : List (List ℕ)) (i : ℕ) (x : List ℕ) → AllByRecursion (λ y. slice_cmp nat_cmp n y ≡ Less) ns → slice_get ns i ≡ Some x → slice_cmp nat_cmp n x ≡ Less
 below_get n [] i x h e = absurd (some≢none x (sym e))
 below_get n (m ∷ ns) zero x h e = subst (λ y. slice_cmp nat_cmp n y ≡ Less) (some_same m x e) h.0
 below_get n (m ∷ ns) (suc i) x h e = below_get n ns i x h.1 e
@@ -116,7 +116,7 @@ settlers_on sources earlier all ds rest settled new s pass mark =
       are_marks = mark s.now s.are_marks;
       split = append_assoc s.now (map text ds) (map text rest) ∙ (ap (λ ts. s.now ++ ts) (sym (map-append ds rest)) ∙ s.split);
       passed = passed_on (settled_tests sources earlier all) (settled_tests sources s.now ds) (settled_tests sources (s.now ++ map text ds) rest)
-      (subst (Passed (settled_tests sources earlier all)) (tests-append sources s.now ds rest) s.passed) (pass s.now s.are_marks);
+          (subst (Passed (settled_tests sources earlier all)) (tests-append sources s.now ds rest) s.passed) (pass s.now s.are_marks);
     }
 
 pub settlers_refuse : (sources earlier : List (List ℕ)) (all ds rest : List Data) (settled : List Bool) (e : ScriptFault)
