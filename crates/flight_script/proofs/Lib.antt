@@ -9,3 +9,4 @@ pub mod Naming
 pub mod Assembling
 pub mod Seeing
 pub mod Once
+pub mod Valid

@@ -54,7 +54,7 @@ one_fault (t ∷ ts) e f (inr h) (inr k) = one_fault ts e f h.1 k.1
 
 -- ---- lists
 
-some_one : {A : Type 0} (x y : A) → Some x ≡ Some y → x ≡ y
+pub some_one : {A : Type 0} (x y : A) → Some x ≡ Some y → x ≡ y
 some_one x y h = cc
 
 one_of : {A : Type 0} (o : Option A) (x y : A) → o ≡ Some x → o ≡ Some y → x ≡ y

@@ -1,6 +1,7 @@
 //! Scripts.
 #![tactic(auto)]
 
+mod count;
 mod fault;
 mod law;
 mod look;
