@@ -10,3 +10,4 @@ pub mod Assembling
 pub mod Seeing
 pub mod Once
 pub mod Valid
+pub mod Formed

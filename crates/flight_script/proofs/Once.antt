@@ -17,7 +17,6 @@ use Rattle.flight_value.specs.declared.graph.Node.{Node}
 use Rattle.flight_value.specs.declared.graph.Node.TheVariants as node
 use Rattle.flight_value.specs.declared.graph.Graph.{Graph}
 use Rattle.flight_value.specs.Graph.{Ascend}
-use Rattle.flight_text.specs.declared.mark.Mark.{Mark}
 use Rattle.flight_text.specs.Whole.{whole_of}
 use Rattle.flight_text.proofs.Lines.{same_mark}
 use Rattle.flight_syntax.specs.declared.program.Declared.{Declared}
@@ -32,8 +31,8 @@ use Rattle.flight_script.specs.Slots.{slot_of, IsSlot, IsProp, IsPair, IsNode, E
 use Rattle.flight_script.specs.Sources.{rejection, value_parts, IsGraph, IsOutcome, IsSource}
 use Rattle.flight_script.specs.Streams.{flow_in, IsNumberOf, IsLast, IsStream}
 use Rattle.flight_script.specs.Settlers.{AreSettled}
-use Rattle.flight_script.specs.Script.{sources_in, streams_in, names, IsScript, IsScriptOf, IsFaultOf}
-use Rattle.flight_script.specs.Tests.{Test, Passes, AllPass, IsFirstFault}
+use Rattle.flight_script.specs.Script.{sources_in, streams_in, names, IsScript, IsScriptOf}
+use Rattle.flight_script.specs.Tests.{Test, AllPass, IsFirstFault}
 use Rattle.flight_script.proofs.Marks.{some≢none}
 use Rattle.flight_script.proofs.Nodes.{apart_each, each_some}
 use Rattle.flight_script.proofs.Settling.{apart, below_get}

@@ -1,5 +1,5 @@
 -- Marks of what is settled.
-use Rattle.std.proofs.Common.{◌≡◌, ℕ, zero, suc, ◌<◌, List, [], ◌∷◌, length, map, refl, ◌∙◌, ap, subst, arith, Option, Some, option_map, Bool, false}
+use Rattle.std.proofs.Common.{◌≡◌, ℕ, zero, suc, ◌<◌, List, [], ◌∷◌, length, map, refl, ◌∙◌, ap, arith, Option, Some, option_map, Bool, false}
 use Rattle.std.specs.Prelude.{◌||◌, slice_get}
 
 -- one more reason for a mark

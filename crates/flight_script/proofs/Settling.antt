@@ -1,18 +1,18 @@
 -- The sources that are settled so far.
-use Rattle.std.proofs.Common.{◌≡◌, ◌≢◌, ℕ, zero, suc, ◌+◌, ◌<◌, List, [], ◌∷◌, ◌++◌, length, drop, map, refl, sym, ◌∙◌, ap, subst, arith, append_assoc, append-nil, Option, Some, None, Ordering, Less, Equal, nat_cmp, true, false, Bool, slice_set, Bor}
+use Rattle.std.proofs.Common.{◌≡◌, ◌≢◌, ℕ, zero, suc, ◌+◌, ◌<◌, List, [], ◌∷◌, ◌++◌, length, drop, map, refl, sym, ◌∙◌, ap, subst, arith, append_assoc, append-nil, Some, Less, nat_cmp, true, false, Bool, slice_set, Bor}
 use Rattle.std.proofs.lemmas.List.{drop_more}
 use Rattle.std.specs.Prelude.{◌||◌, slice_get}
 use Rattle.std.specs.Cmp.Lexicographic.{slice_cmp}
-use Rattle.std.specs.List.{AllByRecursion, flat_map}
+use Rattle.std.specs.List.{AllByRecursion}
 use Rattle.std.specs.List.Sorted.{IsStrictlySortedBy}
 use Rattle.std.specs.Str.{bytes_eq}
 use Rattle.std.proofs.lemmas.Slice.Eq.{bytes_eq-Decides}
 use Rattle.std.proofs.lemmas.Bool.{or_right}
 use Rattle.serde_json.specs.Data.{Data}
 use Rattle.flight_value.specs.Graph.{Ascend}
-use Rattle.flight_script.specs.Json.{is_among, text, list_of}
+use Rattle.flight_script.specs.Json.{is_among, text}
 use Rattle.flight_script.specs.Settlers.{marks, settle_tests, settled_tests}
-use Rattle.flight_script.specs.Tests.{Test, AllPass, Refuses}
+use Rattle.flight_script.specs.Tests.{AllPass, Refuses}
 use Rattle.flight_script.specs.declared.fault.ScriptFault.{ScriptFault}
 use Rattle.flight_script.proofs.Marks.{some≢none}
 use Rattle.flight_script.proofs.Finding.{equal_from_same, less≢equal, some_same}

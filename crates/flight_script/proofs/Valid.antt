@@ -1,6 +1,6 @@
 -- The graphs of sources are valid.
-use Rattle.std.proofs.Common.{◌≡◌, ℕ, suc, ◌+◌, ◌-◌, ◌^◌, ◌<◌, ◌≤◌, List, [], ◌∷◌, ◌++◌, length, map, refl, sym, ◌∙◌, ap, subst, arith, true, false, Bool, All, Option, Some, None, option_map, nat_lt, ◌&&◌}
-use Rattle.std.specs.Prelude.{ℤ, pos, negsuc, ◌≤ℤ◌, if◌then◌else◌, codes, ◌==◌, option_and_then, unwrap_or}
+use Rattle.std.proofs.Common.{◌≡◌, ℕ, suc, ◌+◌, ◌-◌, ◌^◌, ◌<◌, List, [], ◌∷◌, length, map, refl, sym, ◌∙◌, ap, subst, arith, true, false, Bool, Option, Some, None, option_map, nat_lt, ◌&&◌}
+use Rattle.std.specs.Prelude.{ℤ, pos, negsuc, if◌then◌else◌, codes, ◌==◌, option_and_then}
 use Rattle.std.specs.Ordering.{nat_cmp, match_ordering}
 use Rattle.std.specs.declared.cmp.Ordering.{Ordering}
 use Rattle.std.specs.declared.cmp.Ordering.TheVariants.{Less, Equal, Greater}
@@ -20,7 +20,7 @@ use Rattle.flight_value.specs.declared.graph.Pair.{Pair}
 use Rattle.flight_value.specs.declared.graph.Node.{Node}
 use Rattle.flight_value.specs.declared.graph.Node.TheVariants as node
 use Rattle.flight_value.specs.declared.graph.Graph.{Graph}
-use Rattle.flight_value.specs.Graph.{Ascend, IsSafe, IsValidSlot, IsValidKind, IsValidNode, IsValid, slots_of}
+use Rattle.flight_value.specs.Graph.{Ascend, IsSafe, IsValidSlot, IsValidNode, IsValid}
 use Rattle.flight_syntax.specs.declared.script.Outcome.TheVariants.{Value}
 use Rattle.flight_text.specs.declared.mark.Mark.{Mark}
 use Rattle.flight_text.specs.declared.mark.Mark.TheVariants as mark

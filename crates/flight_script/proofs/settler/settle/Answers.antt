@@ -1,4 +1,4 @@
-use Rattle.std.proofs.Common.{map, drop, ◌+◌, ◌++◌, ◌∷◌, [], subst, ◌∙◌, ap, sym, ◌≡◌, Some}
+use Rattle.std.proofs.Common.{map, drop, ◌+◌, ◌++◌, ◌∷◌, [], subst, ◌∙◌, ap, ◌≡◌, Some}
 use Rattle.std.proofs.lemmas.Result.{err_from_is_err_and}
 use Rattle.serde_json.specs.View.{view}
 use Rattle.flight_script.specs.Settlers.{marks, settle_tests}

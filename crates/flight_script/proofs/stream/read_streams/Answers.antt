@@ -1,4 +1,4 @@
-use Rattle.std.proofs.Common.{map, subst, String, Global, ◌∙◌, ap, sym, ◌≡◌, refl}
+use Rattle.std.proofs.Common.{map, subst, String, Global}
 use Rattle.std.specs.List.{flat_map}
 use Rattle.std.proofs.lemmas.Result.{err_from_is_err_and}
 use Rattle.serde_json.specs.declared.value.Value.{Value}
