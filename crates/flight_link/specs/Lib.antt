@@ -1,0 +1,5 @@
+pub mod Spots
+pub mod Adding
+pub mod Finding
+pub mod Looking
+pub mod Origins
