@@ -11,6 +11,8 @@
 
 mod fault;
 mod found;
+mod node;
+mod step;
 
 pub use fault::{LinkFault, LinkKind};
 pub use found::{Found, Seen, Spot};
