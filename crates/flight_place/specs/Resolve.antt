@@ -132,3 +132,12 @@ IsEnd nowhere = ⊥
 
 abbrev pub ComesToAnEnd : List PlacedRow → Stand → Type 0
 ComesToAnEnd rows s = (f : Found) × Ends rows s f × IsEnd f
+
+-- no lazy and no value reference: no walk goes on from there with no step left
+abbrev pub IsStop : Place → Type 0
+IsStop (place.Lazy id) = ⊥
+IsStop (place.Value at) = ⊥
+IsStop at = Unit {0}
+
+abbrev pub StopsAt : List PlacedRow → Spot → Type 0
+StopsAt rows s = (at : Place) × (place_at rows s ≡ Some at) × IsStop at
