@@ -1,2 +1,4 @@
 pub mod Steps
 pub mod Turns
+pub mod PlainRows
+pub mod Stepping

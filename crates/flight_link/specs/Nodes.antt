@@ -1,5 +1,5 @@
 -- The table of nodes: for each id and for each place that is followed, where its walk stands.
-use Rattle.std.specs.Prelude.{ℕ, zero, suc, ◌+◌, ◌-◌, ◌<◌, ◌≤◌, ◌≡◌, ◌≢◌, Bool, true, false, List, [], ◌∷◌, ◌++◌, length, drop, map, slice_get, Option, Some, None, option_and_then, option_map, unwrap_or, All, sum_by}
+use Rattle.std.specs.Prelude.{ℕ, zero, suc, nat_eq, ◌+◌, ◌-◌, ◌<◌, ◌≤◌, ◌≡◌, ◌≢◌, Bool, true, false, List, [], ◌∷◌, ◌++◌, length, drop, map, slice_get, Option, Some, None, option_and_then, option_map, unwrap_or, All, sum_by}
 use Rattle.flight_value.specs.declared.graph.Atom.TheVariants as atom
 use Rattle.flight_place.specs.declared.place.Place.{Place}
 use Rattle.flight_place.specs.declared.place.Place.TheVariants as place
@@ -14,6 +14,11 @@ use Rattle.flight_link.specs.declared.found.Spot.{Spot}
 use Rattle.flight_link.specs.declared.node.Start.{Start}
 use Rattle.flight_link.specs.declared.node.Start.TheVariants.{Id, Place as AtPlace}
 use Rattle.flight_link.specs.declared.node.State.{State}
+use Rattle.flight_link.specs.declared.table.Known.{Known}
+use Rattle.flight_link.specs.declared.table.Table.{Table}
+use Rattle.flight_link.specs.declared.table.Step.{Step}
+use Rattle.flight_link.specs.declared.table.Step.TheVariants.{Stops, Leaves, To, Meets}
+use Rattle.std.specs.HashMap.{get}
 use Rattle.flight_link.specs.declared.node.State.TheVariants.{Absent, Ended, Lost, Behind}
 
 -- ---- the rows that are linked
@@ -91,7 +96,7 @@ last_names left names = drop (length names - left) names
 
 -- where the walk of a node begins
 abbrev pub stand : List PlacedRow → Start → Stand
-stand rows (Id id row) = to id []
+stand rows (Id id) = to id []
 stand rows (AtPlace spot) = here (spot_of rows spot) []
 
 -- the names of a node's walk
@@ -100,7 +105,7 @@ names_in (Some way) = way.1
 names_in None = []
 
 abbrev pub names_of : List PlacedRow → Start → Path
-names_of rows (Id id row) = []
+names_of rows (Id id) = []
 names_of rows (AtPlace spot) = names_in (option_and_then followed (place_in rows spot))
 
 -- turns lead behind another node, with some of these names left
@@ -125,7 +130,7 @@ pub record HasBegun (rows : List PlacedRow) (starts : List Start) (start : Start
 
 -- the id of a node has no row
 abbrev pub HasNoRow : List PlacedRow → Start → Type 0
-HasNoRow rows (Id id row) = rows_of id rows ≡ []
+HasNoRow rows (Id id) = rows_of id rows ≡ []
 HasNoRow rows (AtPlace spot) = ⊥
 
 -- what a node's state says is so
@@ -157,22 +162,56 @@ steps_left state = 0
 
 -- ---- the table
 
--- a place that is followed has a node, whose number stands at it
+-- the node whose number stands at a place
 abbrev pub node_in : List (List (Option ℕ)) → Spot → Option ℕ
 node_in index s = option_and_then (λ o. o) (option_and_then (λ row. slice_get row s.place) (slice_get index s.row))
 
 abbrev pub IsNodeAt : List Start → ℕ → Start → Type 0
 IsNodeAt starts n start = slice_get starts n ≡ Some start
 
-abbrev pub AreIndexed : List PlacedRow → List Start → List (List (Option ℕ)) → Type 0
-AreIndexed rows starts index = (s : Spot) (at : Place) (way : ℕ × Path) → place_in rows s ≡ Some at → followed at ≡ Some way → (n : ℕ) × (node_in index s ≡ Some n) × IsNodeAt starts n (AtPlace s)
+-- a place that is followed has a node, and no other has
+abbrev pub IsIndexed : List Start → Spot → Option (ℕ × Path) → Option ℕ → Type 0
+IsIndexed starts s (Some way) (Some n) = IsNodeAt starts n (AtPlace s)
+IsIndexed starts s None None = Unit {0}
+IsIndexed starts s way n = ⊥
 
--- the row of an id, as its node has it
+abbrev pub AreIndexed : List PlacedRow → List Start → List (List (Option ℕ)) → Type 0
+AreIndexed rows starts index = (s : Spot) (at : Place) → place_in rows s ≡ Some at → IsIndexed starts s (followed at) (node_in index s)
+
+-- the places of nodes are there
+abbrev pub IsStart : List PlacedRow → Start → Type 0
+IsStart rows (Id id) = Unit {0}
+IsStart rows (AtPlace s) = (at : Place) × (place_in rows s ≡ Some at)
+
+abbrev pub AreStarts : List PlacedRow → List Start → Type 0
+AreStarts rows starts = (n : ℕ) (start : Start) → IsNodeAt starts n start → IsStart rows start
+
+-- the row of an id by its number
 abbrev pub IsRowOf : List PlacedRow → ℕ → Option ℕ → Type 0
 IsRowOf rows id None = rows_of id rows ≡ []
 IsRowOf rows id (Some n) = (r : PlacedRow) × (slice_get rows n ≡ Some r) × (r.id ≡ id)
 
--- an id that is named has a node
-abbrev pub IsNamed : List PlacedRow → List Start → ℕ → Option ℕ → Type 0
-IsNamed rows starts id None = rows_of id rows ≡ []
-IsNamed rows starts id (Some n) = (row : Option ℕ) × IsNodeAt starts n (Id id row) × IsRowOf rows id row
+-- an id that is known has a node; any other has no row
+abbrev pub IsKnown : List PlacedRow → List Start → ℕ → Option Known → Type 0
+IsKnown rows starts id None = rows_of id rows ≡ []
+IsKnown rows starts id (Some k) = IsNodeAt starts k.node (Id id) × IsRowOf rows id k.row
+
+pub record IsTable (t : Table) : Type 0 where
+  pub plain : IsPlain t.rows.items
+  pub fine : All IsFine t.rows.items
+  pub starts : AreStarts t.rows.items t.starts.items
+  pub indexed : AreIndexed t.rows.items t.starts.items t.index.items
+  pub known : (id : ℕ) → IsKnown t.rows.items t.starts.items id (get nat_eq t.known id)
+
+-- ---- single steps
+
+-- the place is there, and no walk goes on from it without a name
+abbrev pub IsStop : List PlacedRow → Spot → Type 0
+IsStop rows s = (at : Place) × (place_in rows s ≡ Some at) × (followed at ≡ None)
+
+-- a step from a place, whatever names are behind it
+abbrev pub IsStep : List PlacedRow → List Start → Spot → List ℕ → Step → Type 0
+IsStep rows starts s name Stops = (rest : Path) → turn rows (here (spot_of rows s) (name ∷ rest)) ≡ ends (found (spot_of rows s))
+IsStep rows starts s name Leaves = (rest : Path) → turn rows (here (spot_of rows s) (name ∷ rest)) ≡ ends nowhere
+IsStep rows starts s name (To next) = IsStop rows next × ((rest : Path) → turn rows (here (spot_of rows s) (name ∷ rest)) ≡ on (here (spot_of rows next) rest))
+IsStep rows starts s name (Meets node) = (next : Spot) × IsNodeAt starts node (AtPlace next) × ((rest : Path) → turn rows (here (spot_of rows s) (name ∷ rest)) ≡ on (here (spot_of rows next) rest))

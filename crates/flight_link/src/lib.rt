@@ -13,6 +13,7 @@ mod fault;
 mod found;
 mod node;
 mod step;
+mod table;
 
 pub use fault::{LinkFault, LinkKind};
 pub use found::{Found, Seen, Spot};

@@ -3,8 +3,8 @@ use crate::found::Spot;
 /// Whose walk it is.
 #[derive(Clone, Copy)]
 pub enum Start {
-    /// The way to the value of an id, whose row has this number once it is there.
-    Id { id: u32, row: Option<u32> },
+    /// The way to the value of an id.
+    Id(u32),
     /// The way from a lazy or a value reference.
     Place(Spot),
 }
