@@ -2,3 +2,4 @@ pub mod Steps
 pub mod Turns
 pub mod PlainRows
 pub mod Stepping
+pub mod Advancing

@@ -215,3 +215,26 @@ IsStep rows starts s name Stops = (rest : Path) → turn rows (here (spot_of row
 IsStep rows starts s name Leaves = (rest : Path) → turn rows (here (spot_of rows s) (name ∷ rest)) ≡ ends nowhere
 IsStep rows starts s name (To next) = IsStop rows next × ((rest : Path) → turn rows (here (spot_of rows s) (name ∷ rest)) ≡ on (here (spot_of rows next) rest))
 IsStep rows starts s name (Meets node) = (next : Spot) × IsNodeAt starts node (AtPlace next) × ((rest : Path) → turn rows (here (spot_of rows s) (name ∷ rest)) ≡ on (here (spot_of rows next) rest))
+
+-- ---- walks on from a place and from a node
+
+-- turns that lead to what comes of these names at a place lead to where the state says
+abbrev pub Descends : Table → Spot → Path → State → Type 0
+Descends t spot names state = (s : Stand) → Reaches t.rows.items s (turn t.rows.items (here (spot_of t.rows.items spot) names)) → Gets t.rows.items t.starts.items names s state
+
+-- turns that lead to these names behind a node lead to where the state says
+abbrev pub Advances : Table → ℕ → Path → State → Type 0
+Advances t node names state = (start : Start) → IsNodeAt t.starts.items node start → (s : Stand) → Come t.rows.items s (with_path (stand t.rows.items start) names) → Gets t.rows.items t.starts.items names s state
+
+-- there is such a node
+abbrev pub HasNode : List Start → ℕ → Type 0
+HasNode starts n = (start : Start) × IsNodeAt starts n start
+
+-- the states of the nodes, which say what is so
+pub record AreStates (t : Table) (states : List State) : Type 0 where
+  pub one_each : length states ≡ length t.starts.items
+  pub sound : AreSound t.rows.items t.starts.items states
+
+-- where the walk of the node had ended, at least one step is taken
+abbrev pub TakesStep : List State → ℕ → Path → State → Type 0
+TakesStep states node names state = (old : State) → slice_get states node ≡ Some old → is_done old ≡ true → steps_left state ≤ length names

@@ -9,6 +9,7 @@
 //! Rows that open or close a stream are not linked yet: they are refused.
 #![tactic(auto)]
 
+mod advance;
 mod fault;
 mod found;
 mod node;

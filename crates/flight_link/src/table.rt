@@ -64,7 +64,7 @@ impl Table {
     }
 
     /// A step from a place that is not followed.
-    fn step(&self, spot: Spot, name: &Text) -> Step
+    pub fn step(&self, spot: Spot, name: &Text) -> Step
         requires table { IsTable self.now }
         requires stop { IsStop self.now.rows.items spot }
         ensures { IsStep self.now.rows.items self.now.starts.items spot name.now result }
