@@ -13,7 +13,7 @@ use Rattle.flight_link.specs.declared.node.State.{State}
 use Rattle.flight_link.specs.declared.node.State.TheVariants.{Absent, Ended, Lost, Behind}
 use Rattle.flight_link.specs.declared.table.Table.{Table}
 use Rattle.flight_link.specs.declared.table.Step.TheVariants.{Stops, Leaves, To, Meets}
-use Rattle.flight_link.specs.Nodes.{IsPlain, place_in, spot_of, followed, IsTable, IsStop, IsStep, IsNodeAt, Come, IsThere, Reaches, with_path, last_names, stand, ComesBehind, Gets, HasBegun, IsSound, AreSound, Descends, Advances, HasNode, AreStates, TakesStep, IsQuiet, is_done, steps_left}
+use Rattle.flight_link.specs.Nodes.{IsPlain, place_in, spot_of, followed, IsTable, IsStop, IsStep, IsNodeAt, Come, IsThere, Reaches, with_path, last_names, stand, ComesBehind, Gets, HasBegun, IsSound, AreSound, Descends, Advances, HasNode, AreStates, TakesStep, IsQuiet, is_done, is_ended, steps_left}
 use Rattle.flight_link.proofs.Turns.{come_on, come_here, come_by_turn, come_with, with_nothing, reaches_from, reaches_come, reaches_lost, reaches_ended}
 use Rattle.flight_link.proofs.PlainRows.{place_there}
 use Rattle.flight_link.proofs.Stepping.{stop_ends}
@@ -194,7 +194,7 @@ behind_waits t node names behind rest b = λ start is s come. record {
 
 -- a walk that is behind one that has not ended is quiet
 pub waits_quiet : (states : List State) (behind left : ℕ) (state : State) → slice_get states behind ≡ Some state → is_done state ≡ false → IsQuiet states (Behind behind left)
-waits_quiet states behind left state e not_done = λ other is. ap is_done (same_Some other state (sym is ∙ e)) ∙ not_done
+waits_quiet states behind left state e not_done = ap is_ended e ∙ not_done
 
 pub waits_fewer : (t : Table) (states : List State) (node : ℕ) (names : Path) (behind : ℕ) (rest : Path) (state : State) → IsBehind t node names behind rest → slice_get states behind ≡ Some state → is_done state ≡ false → TakesStep states node names (Behind behind (length rest))
 waits_fewer t states node names behind rest state b e not_done = λ old is done. go b.fewer old is done

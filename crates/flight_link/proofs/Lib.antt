@@ -3,3 +3,4 @@ pub mod Turns
 pub mod PlainRows
 pub mod Stepping
 pub mod Advancing
+pub mod Settling

@@ -14,6 +14,7 @@ use Rattle.flight_link.specs.declared.found.Spot.{Spot}
 use Rattle.flight_link.specs.declared.node.Start.{Start}
 use Rattle.flight_link.specs.declared.node.Start.TheVariants.{Id, Place as AtPlace}
 use Rattle.flight_link.specs.declared.node.State.{State}
+use Rattle.flight_link.specs.declared.node.Loose.{Loose}
 use Rattle.flight_link.specs.declared.table.Known.{Known}
 use Rattle.flight_link.specs.declared.table.Table.{Table}
 use Rattle.flight_link.specs.declared.table.Step.{Step}
@@ -147,9 +148,16 @@ is_done (Ended e) = true
 is_done Lost = true
 is_done state = false
 
+abbrev pub is_ended : Option State → Bool
+is_ended (Some state) = is_done state
+is_ended None = false
+
+abbrev pub has_ended : List State → ℕ → Bool
+has_ended states n = is_ended (slice_get states n)
+
 -- no walk stands behind one that has ended
 abbrev pub IsQuiet : List State → State → Type 0
-IsQuiet states (Behind node left) = (other : State) → slice_get states node ≡ Some other → is_done other ≡ false
+IsQuiet states (Behind node left) = has_ended states node ≡ false
 IsQuiet states state = Unit {0}
 
 abbrev pub AreQuiet : List State → Type 0
@@ -238,3 +246,14 @@ pub record AreStates (t : Table) (states : List State) : Type 0 where
 -- where the walk of the node had ended, at least one step is taken
 abbrev pub TakesStep : List State → ℕ → Path → State → Type 0
 TakesStep states node names state = (old : State) → slice_get states node ≡ Some old → is_done old ≡ true → steps_left state ≤ length names
+
+-- ---- settling
+
+-- the walk of a node stands behind one that has ended
+pub record IsLoose (states : List State) (l : Loose) : Type 0 where
+  pub is_state : slice_get states l.node ≡ Some (Behind l.behind l.left)
+  pub ended : has_ended states l.behind ≡ true
+
+-- a loose walk goes on
+abbrev pub Moves : Table → Loose → State → Type 0
+Moves t l state = (start : Start) → IsNodeAt t.starts.items l.node start → IsSound t.rows.items t.starts.items start state × (steps_left state ≤ l.left)

@@ -13,6 +13,7 @@ mod advance;
 mod fault;
 mod found;
 mod node;
+mod settle;
 mod step;
 mod table;
 

@@ -21,3 +21,11 @@ pub enum State {
     /// It stands where the walk of another node begins, with so many of its names left.
     Behind { node: u32, left: usize },
 }
+
+/// A walk that stands behind one that has ended.
+#[derive(Clone, Copy)]
+pub struct Loose {
+    pub node: usize,
+    pub behind: u32,
+    pub left: usize,
+}
