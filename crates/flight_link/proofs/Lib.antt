@@ -4,3 +4,5 @@ pub mod PlainRows
 pub mod Stepping
 pub mod Advancing
 pub mod Settling
+pub mod Growing
+pub mod RowComes

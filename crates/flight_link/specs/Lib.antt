@@ -4,3 +4,4 @@ pub mod Finding
 pub mod Looking
 pub mod Origins
 pub mod Nodes
+pub mod Growth

@@ -204,12 +204,19 @@ abbrev pub IsKnown : List PlacedRow → List Start → ℕ → Option Known → 
 IsKnown rows starts id None = rows_of id rows ≡ []
 IsKnown rows starts id (Some k) = IsNodeAt starts k.node (Id id) × IsRowOf rows id k.row
 
+-- the node of an id
+abbrev pub IsItsNode : ℕ → Option Known → Type 0
+IsItsNode n None = ⊥
+IsItsNode n (Some k) = k.node ≡ n
+
 pub record IsTable (t : Table) : Type 0 where
   pub plain : IsPlain t.rows.items
   pub fine : All IsFine t.rows.items
   pub starts : AreStarts t.rows.items t.starts.items
   pub indexed : AreIndexed t.rows.items t.starts.items t.index.items
   pub known : (id : ℕ) → IsKnown t.rows.items t.starts.items id (get nat_eq t.known id)
+  pub ids : (n id : ℕ) → IsNodeAt t.starts.items n (Id id) → IsItsNode n (get nat_eq t.known id)
+  pub one_each : length t.index.items ≡ length t.rows.items
 
 -- ---- single steps
 

@@ -12,7 +12,10 @@
 mod advance;
 mod fault;
 mod found;
+mod fresh;
+mod named;
 mod node;
+mod room;
 mod settle;
 mod step;
 mod table;
