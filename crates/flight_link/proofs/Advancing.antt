@@ -130,7 +130,6 @@ behind_within t states node names behind rest are b =
     let w = slice_get_within t.starts.items behind b.has.0 b.has.1 in
     omega (arith, w, are.one_each)
 
-
 -- the state of a node is sound
 pub sound_at : (t : Table) (states : List State) (n : ℕ) (start : Start) (state : State) → AreStates t states → IsNodeAt t.starts.items n start → slice_get states n ≡ Some state → IsSound t.rows.items t.starts.items start state
 sound_at t states n start state are is e = are.sound n start state is e
@@ -148,7 +147,7 @@ gets_more rows starts rest names s (Behind node left) is g =
     let few : left ≤ length names = omega (arith, l, g.few) in
     let k : length names - left ≡ length is.front + (length rest - left) = omega (arith, l, g.few) in
     let e : last_names left names ≡ last_names left rest =
-        ap (λ n. drop n names) k ∙ (ap (drop (length is.front + (length rest - left))) is.whole ∙ (sym (drop-drop (length rest - left) (length is.front) (is.front ++ rest)) ∙ ap (drop (length rest - left)) (drop_at is.front rest (length is.front) refl))) in
+    ap (λ n. drop n names) k ∙ (ap (drop (length is.front + (length rest - left))) is.whole ∙ (sym (drop-drop (length rest - left) (length is.front) (is.front ++ rest)) ∙ ap (drop (length rest - left)) (drop_at is.front rest (length is.front) refl))) in
     record { other = g.other; is_other = g.is_other; few = few; come = subst (λ x. Come rows s (with_path (stand rows g.other) x)) (sym e) g.come }
 
 -- the last names are the end of all

@@ -125,9 +125,10 @@ names_stay rows more (AtPlace s) h = ap (λ o. names_in (option_and_then followe
 
 gets_rows : (rows more : List PlacedRow) (starts : List Start) (names : Path) (s : Stand) (state : State) → AreStarts rows starts → Gets rows starts names s state → Gets (rows ++ more) starts names s state
 gets_rows rows more starts names s Absent are g = g
-gets_rows rows more starts names s (Ended e) are g =
-    (subst (λ x. Reaches (rows ++ more) s (ends (found x))) (sym (spot_stays rows more e g.1.0 g.1.1)) (reaches_stays rows more s (ends (found (spot_of rows e))) g.0),
-     (g.1.0, place_stays rows more e g.1.0 g.1.1, g.1.2))
+gets_rows rows more starts names s (Ended e) are g = (
+  subst (λ x. Reaches (rows ++ more) s (ends (found x))) (sym (spot_stays rows more e g.1.0 g.1.1)) (reaches_stays rows more s (ends (found (spot_of rows e))) g.0),
+  (g.1.0, place_stays rows more e g.1.0 g.1.1, g.1.2),
+)
 gets_rows rows more starts names s Lost are g = reaches_stays rows more s (ends nowhere) g
 gets_rows rows more starts names s (Behind node left) are g = record {
   other = g.other;
@@ -206,12 +207,14 @@ named_known t u id k table is q = go (eqb_tells id q)
   where
     starts : List Start
     starts = t.starts.items ++ Id id ∷ []
+
     go : ((nat_eq id q ≡ true) × (id ≡ q)) ⊎ ((nat_eq id q ≡ false) × (id ≢ q)) → IsKnown t.rows.items (t.starts.items ++ Id id ∷ []) q (get nat_eq u.known q)
-    go (inl p) = subst (IsKnown t.rows.items (t.starts.items ++ Id id ∷ []) q) (sym (is.updates q ∙ ap (λ b. cond b (Some k) (get nat_eq t.known q)) p.0))
-      (subst (λ i. IsNodeAt (t.starts.items ++ Id id ∷ []) k.node (Id i)) p.1 (ap (slice_get (t.starts.items ++ Id id ∷ [])) is.node ∙ push_at t.starts.items (Id id)),
-       subst (IsRowOf t.rows.items q) (sym is.row) (subst (λ i. rows_of i t.rows.items ≡ []) p.1 (no_row t id table is.none)))
+    go (inl p) = subst (IsKnown t.rows.items (t.starts.items ++ Id id ∷ []) q) (sym (is.updates q ∙ ap (λ b. cond b (Some k) (get nat_eq t.known q)) p.0)) (
+      subst (λ i. IsNodeAt (t.starts.items ++ Id id ∷ []) k.node (Id i)) p.1 (ap (slice_get (t.starts.items ++ Id id ∷ [])) is.node ∙ push_at t.starts.items (Id id)),
+      subst (IsRowOf t.rows.items q) (sym is.row) (subst (λ i. rows_of i t.rows.items ≡ []) p.1 (no_row t id table is.none)),
+    )
     go (inr p) = subst (IsKnown t.rows.items (t.starts.items ++ Id id ∷ []) q) (sym (is.updates q ∙ ap (λ b. cond b (Some k) (get nat_eq t.known q)) p.0))
-      (known_starts t.rows.items t.starts.items (Id id ∷ []) q (get nat_eq t.known q) (table.known q))
+        (known_starts t.rows.items t.starts.items (Id id ∷ []) q (get nat_eq t.known q) (table.known q))
 
 named_ids : (t u : Table) (id : ℕ) (k : Known) → IsTable t → IsNamedNow t u id k → (n other : ℕ) → IsNodeAt u.starts.items n (Id other) → IsItsNode n (get nat_eq u.known other)
 named_ids t u id k table is n other e = subst (IsItsNode n) (sym (is.updates other)) (go (push_get t.starts.items (Id id) n (Id other) (sym (ap (λ x. slice_get x n) is.starts) ∙ e)) (eqb_tells id other))
@@ -253,6 +256,7 @@ named_states t u id k states new table is is_new are = record {
     go n start state (inl h) (inr p) = let w = slice_get_within t.starts.items n start h in absurd (omega (arith, w, p.0, are.one_each))
     go n start state (inr p) (inl h) = let w = slice_get_within states n state h in absurd (omega (arith, w, p.0, are.one_each))
     go n start state (inr p) (inr q) = subst (IsSound t.rows.items (t.starts.items ++ Id id ∷ []) start) q.1 (subst (HasNoRow t.rows.items) p.1 (no_row t id table is.none))
+
     sound : AreSound t.rows.items (t.starts.items ++ Id id ∷ []) (states ++ Absent ∷ [])
     sound = λ n start state e f. go n start state (push_get t.starts.items (Id id) n start e) (push_get states Absent n state f)
 
@@ -287,6 +291,7 @@ fresh_none starts row places at f g are none is_index is_starts is_states = reco
   where
     node_more : (j : ℕ) (start : Start) (state : State) → IsFreshNode starts row places start state → IsFreshNode starts row (places ++ at ∷ []) start state
     node_more j start state h = record { number = h.number; is_start = h.is_start; at = h.at; is_place = slice_get-front places (at ∷ []) h.number h.at h.is_place; way = h.way; is_way = h.is_way; node = h.node; is_node = h.is_node; is_state = h.is_state }
+
     go : (n : ℕ) (p : Place) → (slice_get places n ≡ Some p) ⊎ ((n ≡ length places) × (at ≡ p)) → IsFreshAt starts f.starts.items (record { row = row; place = n }) (followed p) (number_in (f.index.items ++ None ∷ []) n)
     go n p (inl h) =
         let w = slice_get_within places n p h in
@@ -311,16 +316,19 @@ fresh_some starts row places at f g way number node are some is_node is_number i
   where
     node_more : (start : Start) (state : State) → IsFreshNode starts row places start state → IsFreshNode starts row (places ++ at ∷ []) start state
     node_more start state h = record { number = h.number; is_start = h.is_start; at = h.at; is_place = slice_get-front places (at ∷ []) h.number h.at h.is_place; way = h.way; is_way = h.is_way; node = h.node; is_node = h.is_node; is_state = h.is_state }
+
     two : (j : ℕ) (start : Start) (state : State) → (slice_get f.starts.items j ≡ Some start) ⊎ ((j ≡ length f.starts.items) × (AtPlace (record { row = row; place = length places }) ≡ start)) → (slice_get f.states.items j ≡ Some state) ⊎ ((j ≡ length f.states.items) × (Behind node (length way.1) ≡ state)) → IsFreshNode starts row (places ++ at ∷ []) start state
     two j start state (inl h) (inl k) = node_more start state (are.nodes j start state h k)
     two j start state (inl h) (inr p) = let w = slice_get_within f.starts.items j start h in let no : ⊥ = omega (arith, w, p.0, are.same_count) in absurd no
     two j start state (inr p) (inl h) = let w = slice_get_within f.states.items j state h in let no : ⊥ = omega (arith, w, p.0, are.same_count) in absurd no
     two j start state (inr p) (inr q) = record { number = length places; is_start = sym p.1; at = at; is_place = push_at places at; way = way; is_way = some; node = node; is_node = is_node; is_state = sym q.1 }
+
     more_at : (s : Spot) (o : Option (ℕ × Path)) (n : Option ℕ) → IsFreshAt starts f.starts.items s o n → IsFreshAt starts (f.starts.items ++ AtPlace (record { row = row; place = length places }) ∷ []) s o n
     more_at s (Some w) (Some n) h = (h.0, h.1, slice_get-front f.starts.items (AtPlace (record { row = row; place = length places }) ∷ []) h.0 (AtPlace s) h.2)
     more_at s None None h = h
     more_at s (Some w) None h = h
     more_at s None (Some n) h = h
+
     go : (n : ℕ) (p : Place) → (slice_get places n ≡ Some p) ⊎ ((n ≡ length places) × (at ≡ p)) → IsFreshAt starts (f.starts.items ++ AtPlace (record { row = row; place = length places }) ∷ []) (record { row = row; place = n }) (followed p) (number_in (f.index.items ++ Some number ∷ []) n)
     go n p (inl h) =
         let w = slice_get_within places n p h in
@@ -332,4 +340,4 @@ fresh_some starts row places at f g way number node are some is_node is_number i
         let is_here : number_in (f.index.items ++ Some number ∷ []) n ≡ Some number = ap (option_and_then (λ o. o)) (ap (slice_get (f.index.items ++ Some number ∷ [])) (q.0 ∙ sym are.one_each) ∙ push_at f.index.items (Some number)) in
         subst (λ x. IsFreshAt starts (f.starts.items ++ AtPlace (record { row = row; place = length places }) ∷ []) (record { row = row; place = n }) x (number_in (f.index.items ++ Some number ∷ []) n)) (sym is_some)
         (subst (λ x. IsFreshAt starts (f.starts.items ++ AtPlace (record { row = row; place = length places }) ∷ []) (record { row = row; place = n }) (Some way) x) (sym is_here)
-          (length f.starts.items, is_number, push_at f.starts.items (AtPlace (record { row = row; place = length places })) ∙ ap (λ m. Some (AtPlace (record { row = row; place = m }))) (sym q.0)))
+        (length f.starts.items, is_number, push_at f.starts.items (AtPlace (record { row = row; place = length places })) ∙ ap (λ m. Some (AtPlace (record { row = row; place = m }))) (sym q.0)))

@@ -48,6 +48,7 @@ row_of_tree (x ∷ xs) id j t e = go (x.id == id) refl (λ j e. let h = row_of_t
     there : ((j : ℕ) → slice_get (rows_of id xs) j ≡ Some t → (i : ℕ) × ((r : PlacedRow) × (slice_get (x ∷ xs) i ≡ Some r) × (r.id ≡ id) × (r.tree ≡ t))) → (j : ℕ) → x.id ≡ id → slice_get (x.tree ∷ rows_of id xs) j ≡ Some t → (i : ℕ) × ((r : PlacedRow) × (slice_get (x ∷ xs) i ≡ Some r) × (r.id ≡ id) × (r.tree ≡ t))
     there rest zero same e = (0, (x, refl, same, same_Some x.tree t e))
     there rest (suc j) same e = rest j e
+
     go : (b : Bool) → x.id == id ≡ b → ((j : ℕ) → slice_get (rows_of id xs) j ≡ Some t → (i : ℕ) × ((r : PlacedRow) × (slice_get (x ∷ xs) i ≡ Some r) × (r.id ≡ id) × (r.tree ≡ t))) → (j : ℕ) → slice_get (rows_of id (x ∷ xs)) j ≡ Some t → (i : ℕ) × ((r : PlacedRow) × (slice_get (x ∷ xs) i ≡ Some r) × (r.id ≡ id) × (r.tree ≡ t))
     go true b rest j e = there rest j (same_id x.id id b) (sym (ap (λ b. slice_get (map (λ (q : PlacedRow). q.tree) (cond b (x ∷ filter (is_of id) xs) (filter (is_of id) xs))) j) b) ∙ e)
     go false b rest j e = rest j (sym (ap (λ b. slice_get (map (λ (q : PlacedRow). q.tree) (cond b (x ∷ filter (is_of id) xs) (filter (is_of id) xs))) j) b) ∙ e)
@@ -94,15 +95,17 @@ place_back rows s at plain e = go (slice_get (rows_of s.id rows) s.nth) refl e
     first (u ∷ []) zero t p e = refl
     first (u ∷ []) (suc j) t p e = absurd (none-some t e)
     first (u ∷ v ∷ ts) j t p e = absurd p
+
     go : (o : Option PlaceTree) → slice_get (rows_of s.id rows) s.nth ≡ o → option_and_then (λ (t : PlaceTree). slice_get t.places s.at) o ≡ Some at → (n : Spot) × (place_in rows n ≡ Some at) × (spot_of rows n ≡ s)
     go None is h = absurd (none-some at h)
     go (Some t) is h =
         let w = row_of_tree rows s.id s.nth t is in
         let z = first (rows_of s.id rows) s.nth t (plain s.id) is in
-        let n : Spot = record { row = w.0; place = s.at } in
-        (n,
-         ap (option_and_then (λ (r : PlacedRow). slice_get r.tree.places s.at)) w.1.1 ∙ (ap (λ (t : PlaceTree). slice_get t.places s.at) w.1.3 ∙ h),
-         spot_in_row rows n w.1.0 w.1.1 ∙ (ap (λ i. record { id = i; nth = 0; at = s.at }) w.1.2 ∙ ap (λ k. record { id = s.id; nth = k; at = s.at }) (sym z)))
+        let n : Spot = record { row = w.0; place = s.at } in (
+          n,
+          ap (option_and_then (λ (r : PlacedRow). slice_get r.tree.places s.at)) w.1.1 ∙ (ap (λ (t : PlaceTree). slice_get t.places s.at) w.1.3 ∙ h),
+          spot_in_row rows n w.1.0 w.1.1 ∙ (ap (λ i. record { id = i; nth = 0; at = s.at }) w.1.2 ∙ ap (λ k. record { id = s.id; nth = k; at = s.at }) (sym z)),
+        )
 
 -- ---- into a row
 

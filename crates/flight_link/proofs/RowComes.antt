@@ -9,6 +9,7 @@ use Rattle.std.proofs.lemmas.Option.{none-some, same_Some, slice_get_within, sli
 use Rattle.flight_place.specs.declared.place.Place.{Place}
 use Rattle.flight_place.specs.declared.place.Place.TheVariants as place
 use Rattle.flight_place.specs.declared.place.PlacedRow.{PlacedRow}
+use Rattle.flight_place.specs.Linked as linked
 use Rattle.flight_place.specs.Linked.{rows_of, place_at, first_place}
 use Rattle.flight_place.specs.Resolve.{Path, Stand, to, here, found, Turn, on, ends, go_from, turn}
 use Rattle.flight_place.proofs.MoreRows.{rows_of-other, slice_get-front}
@@ -76,10 +77,10 @@ indexed_added t r f node table may s at e = go (place_new t.rows.items r s at e)
     go (inr h) =
         let row : record { row = length t.rows.items; place = s.place } ≡ s = ap (λ n. record { row = n; place = s.place }) (sym h.0) in
         let number : node_in (t.index.items ++ f.index.items ∷ []) s ≡ number_in f.index.items s.place =
-            ap (node_in (t.index.items ++ f.index.items ∷ [])) (sym row ∙ ap (λ n. record { row = n; place = s.place }) (sym table.one_each)) ∙ index_new t.index.items f.index.items s.place in
+        ap (node_in (t.index.items ++ f.index.items ∷ [])) (sym row ∙ ap (λ n. record { row = n; place = s.place }) (sym table.one_each)) ∙ index_new t.index.items f.index.items s.place in
         subst (IsIndexed (t.starts.items ++ f.starts.items) s (followed at)) (sym number)
         (fresh_indexed t.starts.items f.starts.items s (followed at) (number_in f.index.items s.place)
-          (subst (λ x. IsFreshAt t.starts.items f.starts.items x (followed at) (number_in f.index.items s.place)) row (may.fresh.placed s.place at h.1)))
+        (subst (λ x. IsFreshAt t.starts.items f.starts.items x (followed at) (number_in f.index.items s.place)) row (may.fresh.placed s.place at h.1)))
 
 -- ---- nodes
 
@@ -117,11 +118,12 @@ known_added : (t u : Table) (r : PlacedRow) (f : Fresh) (node : ℕ) → IsTable
 known_added t u r f node table may has q = subst (IsKnown (t.rows.items ++ r ∷ []) (t.starts.items ++ f.starts.items) q) (sym (has.updates q)) (go (eqb_tells r.id q))
   where
     go : ((nat_eq r.id q ≡ true) × (r.id ≡ q)) ⊎ ((nat_eq r.id q ≡ false) × (r.id ≢ q)) → IsKnown (t.rows.items ++ r ∷ []) (t.starts.items ++ f.starts.items) q (cond (nat_eq r.id q) (Some (record { node = node; row = Some (length t.rows.items) })) (get nat_eq t.known q))
-    go (inl p) = subst (λ b. IsKnown (t.rows.items ++ r ∷ []) (t.starts.items ++ f.starts.items) q (cond b (Some (record { node = node; row = Some (length t.rows.items) })) (get nat_eq t.known q))) (sym p.0)
-      (slice_get-front t.starts.items f.starts.items node (Id q) (subst (λ i. IsNodeAt t.starts.items node (Id i)) p.1 may.is_node),
-       (r, push_at t.rows.items r, p.1))
+    go (inl p) = subst (λ b. IsKnown (t.rows.items ++ r ∷ []) (t.starts.items ++ f.starts.items) q (cond b (Some (record { node = node; row = Some (length t.rows.items) })) (get nat_eq t.known q))) (sym p.0) (
+      slice_get-front t.starts.items f.starts.items node (Id q) (subst (λ i. IsNodeAt t.starts.items node (Id i)) p.1 may.is_node),
+      (r, push_at t.rows.items r, p.1),
+    )
     go (inr p) = subst (λ b. IsKnown (t.rows.items ++ r ∷ []) (t.starts.items ++ f.starts.items) q (cond b (Some (record { node = node; row = Some (length t.rows.items) })) (get nat_eq t.known q))) (sym p.0)
-      (known_rows t.rows.items r (t.starts.items ++ f.starts.items) q (get nat_eq t.known q) p.0 (known_starts t.rows.items t.starts.items f.starts.items q (get nat_eq t.known q) (table.known q)))
+        (known_rows t.rows.items r (t.starts.items ++ f.starts.items) q (get nat_eq t.known q) p.0 (known_starts t.rows.items t.starts.items f.starts.items q (get nat_eq t.known q) (table.known q)))
 
 its_node : (n m : ℕ) (o : Option Known) → IsItsNode n o → IsItsNode m o → n ≡ m
 its_node n m None h k = absurd h
@@ -135,7 +137,7 @@ ids_added t u r f node table may has n id e = subst (IsItsNode n) (sym (has.upda
   where
     go : (slice_get t.starts.items n ≡ Some (Id id)) ⊎ ((j : ℕ) × (n ≡ length t.starts.items + j) × (slice_get f.starts.items j ≡ Some (Id id))) → ((nat_eq r.id id ≡ true) × (r.id ≡ id)) ⊎ ((nat_eq r.id id ≡ false) × (r.id ≢ id)) → IsItsNode n (cond (nat_eq r.id id) (Some (record { node = node; row = Some (length t.rows.items) })) (get nat_eq t.known id))
     go (inl h) (inl p) = subst (λ b. IsItsNode n (cond b (Some (record { node = node; row = Some (length t.rows.items) })) (get nat_eq t.known id))) (sym p.0)
-      (its_node node n (get nat_eq t.known id) (table.ids node id (subst (λ i. IsNodeAt t.starts.items node (Id i)) p.1 may.is_node)) (table.ids n id h))
+        (its_node node n (get nat_eq t.known id) (table.ids node id (subst (λ i. IsNodeAt t.starts.items node (Id i)) p.1 may.is_node)) (table.ids n id h))
     go (inl h) (inr p) = subst (λ b. IsItsNode n (cond b (Some (record { node = node; row = Some (length t.rows.items) })) (get nat_eq t.known id))) (sym p.0) (table.ids n id h)
     go (inr q) p =
         let s = as_many f.starts.items f.states.items q.0 (Id id) may.fresh.same_count q.2 in
@@ -156,4 +158,121 @@ table_added t u r f node table may has = record {
       (subst (λ x. IsKnown (t.rows.items ++ r ∷ []) x q (get nat_eq u.known q)) (sym has.starts) (known_added t u r f node table may has q));
   ids = λ n id e. ids_added t u r f node table may has n id (sym (ap (λ x. slice_get x n) has.starts) ∙ e);
   one_each = ap length has.index ∙ (length-append t.index.items (f.index.items ∷ []) ∙ (ap (λ n. n + 1) table.one_each ∙ (sym (length-append t.rows.items (r ∷ [])) ∙ sym (ap length has.rows))));
+}
+
+-- ---- states
+
+followed_turn : (s : linked.Spot) (at : Place) (way : ℕ × Path) (path : Path) → followed at ≡ Some way → go_from s (Some at) path ≡ on (to way.0 (way.1 ++ path))
+followed_turn s (place.Lazy id) way path e = ap (λ (w : ℕ × Path). on (to w.0 (w.1 ++ path))) (same_Some (id, []) way e)
+followed_turn s (place.Value at) way path e = ap (λ (w : ℕ × Path). on (to w.0 (w.1 ++ path))) (same_Some (at.id, at.path) way e)
+followed_turn s (place.Atom a) way path e = absurd (none-some way e)
+followed_turn s (place.Array ns) way path e = absurd (none-some way e)
+followed_turn s (place.Object ps) way path e = absurd (none-some way e)
+followed_turn s (place.Element tag key props) way path e = absurd (none-some way e)
+followed_turn s (place.Promise id) way path e = absurd (none-some way e)
+followed_turn s (place.Map at) way path e = absurd (none-some way e)
+followed_turn s (place.Set at) way path e = absurd (none-some way e)
+followed_turn s (place.Action id) way path e = absurd (none-some way e)
+
+-- behind the node of its id the walk of a place has all its names left
+way_begun : (rows : List PlacedRow) (starts : List Start) (s : Spot) (at : Place) (way : ℕ × Path) (node : ℕ) → IsPlain rows → place_in rows s ≡ Some at → followed at ≡ Some way → IsNodeAt starts node (Id way.0) → HasBegun rows starts (AtPlace s) (Behind node (length way.1))
+way_begun rows starts s at way node plain e some is_node =
+    let names : names_of rows (AtPlace s) ≡ way.1 = ap (λ o. names_in (option_and_then followed o)) e ∙ ap names_in some in
+    let begun : HasBegun rows starts (AtPlace s) (Behind node (length way.1)) = record {
+      next = to way.0 (way.1 ++ []);
+      is_next = ap (λ o. go_from (spot_of rows s) o []) (place_there rows s at plain e) ∙ followed_turn (spot_of rows s) at way [] some;
+      gets = subst (λ x. ComesBehind rows starts x (to way.0 (way.1 ++ [])) node (length way.1)) (sym names) (record {
+        other = Id way.0;
+        is_other = is_node;
+        few = omega arith;
+        come = (0, ap (to way.0) (append-nil way.1 ∙ sym (end_last way.1 way.1 (end_itself way.1))));
+      });
+    } in
+    begun
+
+fresh_sound : (rows : List PlacedRow) (r : PlacedRow) (starts more : List Start) (start : Start) (state : State) → IsPlain (rows ++ r ∷ []) → IsFreshNode starts (length rows) r.tree.places start state → IsSound (rows ++ r ∷ []) (starts ++ more) start state
+fresh_sound rows r starts more start state plain h =
+    subst (λ x. IsSound (rows ++ r ∷ []) (starts ++ more) x state) (sym h.is_start)
+    (subst (IsSound (rows ++ r ∷ []) (starts ++ more) (AtPlace (record { row = length rows; place = h.number }))) (sym h.is_state)
+    (way_begun (rows ++ r ∷ []) (starts ++ more) (record { row = length rows; place = h.number }) h.at h.way h.node plain (place_last rows r h.number h.at h.is_place) h.is_way (slice_get-front starts more h.node (Id h.way.0) h.is_node)))
+
+root_begun : (rows : List PlacedRow) (r : PlacedRow) (starts fresh : List Start) (at : Place) (n : Option ℕ) → IsPlain (rows ++ r ∷ []) → slice_get r.tree.places 0 ≡ Some at → IsFreshAt starts fresh (record { row = length rows; place = 0 }) (followed at) n → IsSound (rows ++ r ∷ []) (starts ++ fresh) (Id r.id) (root_by (length rows) n)
+root_begun rows r starts fresh at n plain e h = go (followed at) n refl h
+  where
+    spot : spot_of (rows ++ r ∷ []) (record { row = length rows; place = 0 }) ≡ first_place r.id
+    spot = spot_in_row (rows ++ r ∷ []) (record { row = length rows; place = 0 }) r (push_at rows r)
+
+    go : (way : Option (ℕ × Path)) (n : Option ℕ) → followed at ≡ way → IsFreshAt starts fresh (record { row = length rows; place = 0 }) way n → IsSound (rows ++ r ∷ []) (starts ++ fresh) (Id r.id) (root_by (length rows) n)
+    go (Some way) (Some n) is h = record {
+      next = here (first_place r.id) [];
+      is_next = into_row (rows ++ r ∷ []) (length rows) r [] plain (push_at rows r);
+      gets = record {
+        other = AtPlace (record { row = length rows; place = 0 });
+        is_other = fresh_indexed starts fresh (record { row = length rows; place = 0 }) (Some way) (Some n) h;
+        few = omega arith;
+        come = (0, ap (λ x. here x []) (sym spot));
+      };
+    }
+    go None None is h =
+        let stop : IsStop (rows ++ r ∷ []) (record { row = length rows; place = 0 }) = (at, place_last rows r 0 at e, is) in
+        record {
+          next = here (first_place r.id) [];
+          is_next = into_row (rows ++ r ∷ []) (length rows) r [] plain (push_at rows r);
+          gets = (
+            record {
+              by = here (spot_of (rows ++ r ∷ []) (record { row = length rows; place = 0 })) [];
+              come = (0, ap (λ x. here x []) (sym spot));
+              there = stop_there (rows ++ r ∷ []) (record { row = length rows; place = 0 }) [] plain stop;
+              is_turn = stop_ends (rows ++ r ∷ []) (record { row = length rows; place = 0 }) plain stop;
+            },
+            stop,
+          );
+        }
+    go (Some way) None is h = absurd h
+    go None (Some n) is h = absurd h
+
+root_sound : (t : Table) (r : PlacedRow) (f : Fresh) (node : ℕ) → IsTable t → MayCome t r f node → IsSound (t.rows.items ++ r ∷ []) (t.starts.items ++ f.starts.items) (Id r.id) (root_of f.index.items (length t.rows.items))
+root_sound t r f node table may =
+    root_begun t.rows.items r t.starts.items f.starts.items (first r.tree.places may.fine.rooted).0 (number_in f.index.items 0) (plain_more t.rows.items r table.plain may.none may.kind) (first r.tree.places may.fine.rooted).1 (may.fresh.placed 0 (first r.tree.places may.fine.rooted).0 (first r.tree.places may.fine.rooted).1)
+  where
+    first : (xs : List Place) → 0 < length xs → (at : Place) × (slice_get xs 0 ≡ Some at)
+    first [] w = let no : ⊥ = omega (arith, w) in absurd no
+    first (x ∷ xs) w = (x, refl)
+
+states_sound : (t : Table) (r : PlacedRow) (f : Fresh) (node : ℕ) (states : List State) → IsTable t → MayCome t r f node → AreStates t states → AreSound (t.rows.items ++ r ∷ []) (t.starts.items ++ f.starts.items) (slice_set (states ++ f.states.items) node (root_of f.index.items (length t.rows.items)))
+states_sound t r f node states table may are n start state e h = go (same_or node n)
+  where
+    two : node ≢ n → (slice_get t.starts.items n ≡ Some start) ⊎ ((j : ℕ) × (n ≡ length t.starts.items + j) × (slice_get f.starts.items j ≡ Some start)) → (slice_get states n ≡ Some state) ⊎ ((j : ℕ) × (n ≡ length states + j) × (slice_get f.states.items j ≡ Some state)) → IsSound (t.rows.items ++ r ∷ []) (t.starts.items ++ f.starts.items) start state
+    two ne (inl h) (inl k) =
+        let other : start ≢ Id r.id = λ x. ne (its_node node n (get nat_eq t.known r.id) (table.ids node r.id may.is_node) (table.ids n r.id (h ∙ ap Some x))) in
+        sound_starts (t.rows.items ++ r ∷ []) t.starts.items f.starts.items start state
+        (sound_rows t.rows.items r t.starts.items start state table.starts (table.starts n start h) other (are.sound n start state h k))
+    two ne (inl h) (inr p) = let w = slice_get_within t.starts.items n start h in let no : ⊥ = omega (arith, w, p.1, are.one_each) in absurd no
+    two ne (inr p) (inl h) = let w = slice_get_within states n state h in let no : ⊥ = omega (arith, w, p.1, are.one_each) in absurd no
+    two ne (inr p) (inr q) =
+        let same : q.0 ≡ p.0 = omega (arith, p.1, q.1, are.one_each) in
+        fresh_sound t.rows.items r t.starts.items f.starts.items start state (plain_more t.rows.items r table.plain may.none may.kind)
+        (may.fresh.nodes p.0 start state p.2 (ap (slice_get f.states.items) (sym same) ∙ q.2))
+
+    go : (node ≡ n) ⊎ (node ≢ n) → IsSound (t.rows.items ++ r ∷ []) (t.starts.items ++ f.starts.items) start state
+    go (inl p) =
+        let is_id : start ≡ Id r.id = same_Some start (Id r.id) (sym e ∙ (ap (slice_get (t.starts.items ++ f.starts.items)) (sym p) ∙ slice_get-front t.starts.items f.starts.items node (Id r.id) may.is_node)) in
+        let old = as_many t.starts.items states node (Id r.id) are.one_each may.is_node in
+        let is_root : root_of f.index.items (length t.rows.items) ≡ state =
+        same_Some (root_of f.index.items (length t.rows.items)) state (sym (set_here (states ++ f.states.items) node old.0 (root_of f.index.items (length t.rows.items)) (slice_get-front states f.states.items node old.0 old.1)) ∙ (ap (slice_get (slice_set (states ++ f.states.items) node (root_of f.index.items (length t.rows.items)))) p ∙ h)) in
+        subst (λ x. IsSound (t.rows.items ++ r ∷ []) (t.starts.items ++ f.starts.items) x state) (sym is_id)
+        (subst (IsSound (t.rows.items ++ r ∷ []) (t.starts.items ++ f.starts.items) (Id r.id)) is_root (root_sound t r f node table may))
+    go (inr ne) =
+        two ne (append_get t.starts.items f.starts.items n start e)
+        (append_get states f.states.items n state (sym (set_there (states ++ f.states.items) node n (root_of f.index.items (length t.rows.items)) ne) ∙ h))
+
+pub states_added : (t u : Table) (r : PlacedRow) (f : Fresh) (node : ℕ) (states new : List State) → IsTable t → MayCome t r f node → HasCome t u r f node → AreStates t states → new ≡ slice_set (states ++ f.states.items) node (root_of f.index.items (length t.rows.items)) → AreStates u new
+states_added t u r f node states new table may has are is = record {
+  one_each =
+      ap length is ∙ (length-set (states ++ f.states.items) node (root_of f.index.items (length t.rows.items)) ∙ (length-append states f.states.items
+      ∙ (ap (λ n. n + length f.states.items) are.one_each ∙ (ap (λ n. length t.starts.items + n) may.fresh.same_count ∙ (sym (length-append t.starts.items f.starts.items) ∙ sym (ap length has.starts))))));
+  sound =
+      subst (λ (rows : List PlacedRow). AreSound rows u.starts.items new) (sym has.rows)
+      (subst (λ x. AreSound (t.rows.items ++ r ∷ []) x new) (sym has.starts)
+      (subst (AreSound (t.rows.items ++ r ∷ []) (t.starts.items ++ f.starts.items)) (sym is) (states_sound t r f node states table may are)));
 }

@@ -37,19 +37,19 @@ item_within : (total k : ℕ) (qs : List ℕ) (name : List ℕ) (n : ℕ) → Al
 item_within total k [] name n all e = absurd (none-some n e)
 item_within total k (q ∷ qs) name n all e =
     picked (λ m. m < total) (bytes_eq (decimal k) name) q n (item_from (suc k) qs name) (All-head (λ m. m < total) q qs all)
-      (item_within total (suc k) qs name n (All-tail (λ m. m < total) q qs all)) e
+    (item_within total (suc k) qs name n (All-tail (λ m. m < total) q qs all)) e
 
 property_within : (total : ℕ) (ps : List Named) (name : List ℕ) (n : ℕ) → All (λ (p : Named). p.place < total) ps → property ps name ≡ Some n → n < total
 property_within total [] name n all e = absurd (none-some n e)
 property_within total (p ∷ ps) name n all e =
     picked (λ m. m < total) (bytes_eq p.name name) p.place n (property ps name) (All-head (λ (p : Named). p.place < total) p ps all)
-      (property_within total ps name n (All-tail (λ (p : Named). p.place < total) p ps all)) e
+    (property_within total ps name n (All-tail (λ (p : Named). p.place < total) p ps all)) e
 
 part_within : (total tag key props : ℕ) (name : List ℕ) (n : ℕ) → tag < total → key < total → props < total → part tag key props name ≡ Some n → n < total
 part_within total tag key props name n a b c e =
     picked (λ m. m < total) (bytes_eq name (codes "type")) tag n _ a
-      (picked (λ m. m < total) (bytes_eq name (codes "key")) key n _ b
-        (picked (λ m. m < total) (bytes_eq name (codes "props")) props n None c (λ h. absurd (none-some n h)))) e
+    (picked (λ m. m < total) (bytes_eq name (codes "key")) key n _ b
+    (picked (λ m. m < total) (bytes_eq name (codes "props")) props n None c (λ h. absurd (none-some n h)))) e
 
 pub step_within : (total : ℕ) (at : Place) (name : List ℕ) (n : ℕ) → IsWithin total at → step at name ≡ Some n → n < total
 step_within total (place.Array numbers) name n w e = item_within total 0 numbers name n w e
@@ -129,14 +129,17 @@ pub step_to : (t : Table) (s next : Spot) (at : Place) (name : List ℕ) → IsT
 step_to t s next at name table stop e f some row none =
     let same : record { row = s.row; place = next.place } ≡ next = ap (λ r. record { row = r; place = next.place }) (sym row) in
     let p = step_there t.rows.items s at name next.place table.fine e some in
-    let there = subst (λ x. place_in t.rows.items x ≡ Some p.0) same p.1 in
-    ((p.0, there, not_followed t.starts.items next p.0 (node_in t.index.items next) none (table.indexed next p.0 there)),
-     λ rest. step_on t s at name next.place table stop e f some rest ∙ ap (λ x. on (here (spot_of t.rows.items x) rest)) same)
+    let there = subst (λ x. place_in t.rows.items x ≡ Some p.0) same p.1 in (
+      (p.0, there, not_followed t.starts.items next p.0 (node_in t.index.items next) none (table.indexed next p.0 there)),
+      λ rest. step_on t s at name next.place table stop e f some rest ∙ ap (λ x. on (here (spot_of t.rows.items x) rest)) same,
+    )
 
 pub step_meets : (t : Table) (s next : Spot) (at : Place) (name : List ℕ) (node : ℕ) → IsTable t → IsStop t.rows.items s → place_in t.rows.items s ≡ Some at → fails at ≡ false → step at name ≡ Some next.place → next.row ≡ s.row → node_in t.index.items next ≡ Some node → IsStep t.rows.items t.starts.items s name (Meets node)
 step_meets t s next at name node table stop e f some row is_node =
     let same : record { row = s.row; place = next.place } ≡ next = ap (λ r. record { row = r; place = next.place }) (sym row) in
     let p = step_there t.rows.items s at name next.place table.fine e some in
-    let there = subst (λ x. place_in t.rows.items x ≡ Some p.0) same p.1 in
-    (next, is_followed t.starts.items next p.0 (node_in t.index.items next) node is_node (table.indexed next p.0 there),
-     λ rest. step_on t s at name next.place table stop e f some rest ∙ ap (λ x. on (here (spot_of t.rows.items x) rest)) same)
+    let there = subst (λ x. place_in t.rows.items x ≡ Some p.0) same p.1 in (
+      next,
+      is_followed t.starts.items next p.0 (node_in t.index.items next) node is_node (table.indexed next p.0 there),
+      λ rest. step_on t s at name next.place table stop e f some rest ∙ ap (λ x. on (here (spot_of t.rows.items x) rest)) same,
+    )

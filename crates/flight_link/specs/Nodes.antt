@@ -264,3 +264,9 @@ pub record IsLoose (states : List State) (l : Loose) : Type 0 where
 -- a loose walk goes on
 abbrev pub Moves : Table → Loose → State → Type 0
 Moves t l state = (start : Start) → IsNodeAt t.starts.items l.node start → IsSound t.rows.items t.starts.items start state × (steps_left state ≤ l.left)
+
+-- the whole: the table, and states that say what is so, of which none can go on
+pub record AreLinked (t : Table) (states : List State) : Type 0 where
+  pub table : IsTable t
+  pub states : AreStates t states
+  pub quiet : AreQuiet states

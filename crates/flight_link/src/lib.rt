@@ -9,10 +9,12 @@
 //! Rows that open or close a stream are not linked yet: they are refused.
 #![tactic(auto)]
 
+mod add;
 mod advance;
 mod fault;
 mod found;
 mod fresh;
+mod links;
 mod named;
 mod node;
 mod room;
@@ -22,3 +24,4 @@ mod table;
 
 pub use fault::{LinkFault, LinkKind};
 pub use found::{Found, Seen, Spot};
+pub use links::Links;

@@ -92,5 +92,8 @@ fn ended_behind(states: &[State], state: State) -> Option<(u32, usize)>
 fn ended_at(states: &[State], node: u32) -> bool
     ensures { result ≡ has_ended states.now node }
 {
-    matches!(states.get(node as usize), Some(State::Ended(_) | State::Lost))
+    matches!(
+        states.get(node as usize),
+        Some(State::Ended(_) | State::Lost)
+    )
 }

@@ -1,5 +1,5 @@
-ghost use Rattle.std.specs.Prelude.{◌≡◌, ◌≤◌, ◌<◌, ◌∷◌, ℕ, length, slice_get, option_copied, option_and_then, drop};
-ghost use Rattle.flight_place.specs.Resolve.{Stand, here, turn};
+ghost use Rattle.std.specs.Prelude.{◌≡◌, ◌≢◌, ◌↔◌, IsTrue, [], ℕ, length, slice_get, option_copied, option_and_then, drop};
+ghost use Rattle.flight_place.specs.Linked.{rows_of};
 ghost use Rattle.flight_link.specs.Nodes.{IsTable, IsStop, IsStep, place_in, node_in, spot_of, Reaches, Gets, steps_left};
 
 use crate::found::Spot;
@@ -50,6 +50,17 @@ impl Table {
         match row_at(self.rows.as_slice(), spot.row as usize) {
             Some(row) => place_at(row.tree.places.as_slice(), spot.place as usize),
             None => None,
+        }
+    }
+
+    /// Whether an id has a row.
+    pub fn has_row(&self, id: u32) -> bool
+        requires { IsTable self.now }
+        ensures { IsTrue result ↔ (rows_of id self.now.rows.items ≢ []) }
+    {
+        match self.known.get(&id) {
+            Some(known) => known.row.is_some(),
+            None => false,
         }
     }
 

@@ -19,6 +19,6 @@ returns c = λ places are last.
     let known = subst (IsKnown c.args.self.now.rows.items c.args.self.now.starts.items c.in-Some.id) (sym c.in-Some-get.ensures.value) (c.requires.known c.in-Some.id) in
     let number : c.in-Ok.number ≡ length c.args.self.now.starts.items + length c.args.fresh.now.starts.items = search rules in
     fresh_some c.args.self.now.starts.items c.args.spot.row places c.args.place.now c.args.fresh.now g (c.in-Some.id, c.in-Some.names.now) c.in-Ok.number c.in-Some-get.known.now.node are some known.0 number
-      c.in_ok-push-2.ensures.items
-      (c.in_ok-push-3.ensures.items ∙ ap (λ n. c.args.fresh.now.starts.items ++ AtPlace (record { row = c.args.spot.row; place = n }) ∷ []) last)
-      ?
+    c.in_ok-push-2.ensures.items
+    (c.in_ok-push-3.ensures.items ∙ ap (λ n. c.args.fresh.now.starts.items ++ AtPlace (record { row = c.args.spot.row; place = n }) ∷ []) last)
+    (search rules)
