@@ -6,3 +6,4 @@ pub mod Advancing
 pub mod Settling
 pub mod Growing
 pub mod RowComes
+pub mod Standing

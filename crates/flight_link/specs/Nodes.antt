@@ -268,5 +268,5 @@ Moves t l state = (start : Start) → IsNodeAt t.starts.items l.node start → I
 -- the whole: the table, and states that say what is so, of which none can go on
 pub record AreLinked (t : Table) (states : List State) : Type 0 where
   pub table : IsTable t
-  pub states : AreStates t states
+  pub are_states : AreStates t states
   pub quiet : AreQuiet states

@@ -60,7 +60,9 @@ impl Links {
     /// A fact alone: no row was refused.
     pub fn follow_on(&self)
         ensures { FollowOn self.now }
-    {}
+    {
+        self.table.follow_on();
+    }
 
     /// Adds a row behind those that came. It may not follow them where its id has a row already, where no row may
     /// close it, and, for now, where it opens or closes a stream (React 19.0, `resolveModelChunk` of

@@ -1,5 +1,5 @@
-ghost use Rattle.std.specs.Prelude.{◌≡◌, ◌≢◌, ◌↔◌, IsTrue, [], ℕ, length, slice_get, option_copied, option_and_then, drop};
-ghost use Rattle.flight_place.specs.Linked.{rows_of};
+ghost use Rattle.std.specs.Prelude.{◌≡◌, ◌≢◌, ◌↔◌, IsTrue, [], false, ℕ, length, slice_get, option_copied, option_and_then, drop};
+ghost use Rattle.flight_place.specs.Linked.{rows_of, FollowOn};
 ghost use Rattle.flight_link.specs.Nodes.{IsTable, IsStop, IsStep, place_in, node_in, spot_of, Reaches, Gets, steps_left};
 
 use crate::found::Spot;
@@ -53,10 +53,17 @@ impl Table {
         }
     }
 
+    /// A fact alone: no row was refused.
+    pub fn follow_on(&self)
+        requires { IsTable self.now }
+        ensures { FollowOn self.now.rows.items }
+    {}
+
     /// Whether an id has a row.
     pub fn has_row(&self, id: u32) -> bool
         requires { IsTable self.now }
-        ensures { IsTrue result ↔ (rows_of id self.now.rows.items ≢ []) }
+        ensures some { IsTrue result ↔ (rows_of id self.now.rows.items ≢ []) }
+        ensures none { result ≡ false → rows_of id self.now.rows.items ≡ [] }
     {
         match self.known.get(&id) {
             Some(known) => known.row.is_some(),

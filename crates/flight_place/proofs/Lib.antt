@@ -10,3 +10,4 @@ pub mod MoreRows
 pub mod MoreMeaning
 pub mod PairsStay
 mod Worked
+pub mod Rooted
