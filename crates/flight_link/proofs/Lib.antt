@@ -7,3 +7,5 @@ pub mod Settling
 pub mod Growing
 pub mod RowComes
 pub mod Standing
+pub mod Waits
+pub mod Finds

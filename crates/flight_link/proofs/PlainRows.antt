@@ -27,7 +27,7 @@ same_id : (m n : ℕ) → m == n ≡ true → m ≡ n
 same_id m n e = (Decides-eqb m n).0 e
 
 -- a row is among those of its id
-held : (rows : List PlacedRow) (i : ℕ) (r : PlacedRow) → slice_get rows i ≡ Some r → (j : ℕ) × (slice_get (rows_of r.id rows) j ≡ Some r.tree)
+pub held : (rows : List PlacedRow) (i : ℕ) (r : PlacedRow) → slice_get rows i ≡ Some r → (j : ℕ) × (slice_get (rows_of r.id rows) j ≡ Some r.tree)
 held [] i r e = absurd (none-some r e)
 held (x ∷ xs) zero r e =
     let same : x ≡ r = same_Some x r e in
@@ -54,7 +54,7 @@ row_of_tree (x ∷ xs) id j t e = go (x.id == id) refl (λ j e. let h = row_of_t
     go false b rest j e = rest j (sym (ap (λ b. slice_get (map (λ (q : PlacedRow). q.tree) (cond b (x ∷ filter (is_of id) xs) (filter (is_of id) xs))) j) b) ∙ e)
 
 -- a list of one at most that has a tree is that tree
-only : (ts : List PlaceTree) (j : ℕ) (t : PlaceTree) → IsPlainOf ts → slice_get ts j ≡ Some t → ts ≡ t ∷ []
+pub only : (ts : List PlaceTree) (j : ℕ) (t : PlaceTree) → IsPlainOf ts → slice_get ts j ≡ Some t → ts ≡ t ∷ []
 only [] j t p e = absurd (none-some t e)
 only (u ∷ []) zero t p e = ap (λ x. x ∷ []) (same_Some u t e)
 only (u ∷ []) (suc j) t p e = absurd (none-some t e)

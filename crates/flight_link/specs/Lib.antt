@@ -5,3 +5,4 @@ pub mod Looking
 pub mod Origins
 pub mod Nodes
 pub mod Growth
+pub mod Waiting

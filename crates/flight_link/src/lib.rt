@@ -12,6 +12,7 @@
 mod add;
 mod advance;
 mod fault;
+mod find;
 mod found;
 mod fresh;
 mod links;

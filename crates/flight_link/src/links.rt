@@ -2,12 +2,15 @@ ghost use Rattle.std.specs.Prelude.{◌≡◌, ◌≢◌, ◌++◌, ◌∷◌, [
 ghost use Rattle.flight_place.specs.Linked.{rows_of, FollowOn};
 ghost use Rattle.flight_link.specs.declared.fault.LinkKind.{LinkKind};
 ghost use Rattle.flight_link.specs.Adding.{is_of_stream as is_of_stream_spec, IsPlaced, MayFollow, IsRefused};
+ghost use Rattle.flight_link.specs.Finding.{IsFound};
 
 use crate::fault::{LinkFault, LinkKind};
+use crate::found::Found;
 use crate::node::State;
 use crate::table::Table;
 use flight_place::{PlaceTree, PlacedRow};
 use flight_row::RowKind;
+use flight_text::Ref;
 use std::alloc::Global;
 use std::collections::HashMap;
 use std::marker::Model;
@@ -55,6 +58,13 @@ impl Links {
         ensures { IsTrue result ↔ (rows_of 0 self.now ≢ []) }
     {
         self.table.has_row(0)
+    }
+
+    /// Where a reference leads (React 19.0, `getOutlinedModel` of ReactFlightClient).
+    pub fn find(&self, reference: &Ref) -> Found
+        ensures { IsFound self.now reference.now result }
+    {
+        self.table.find(self.states.as_slice(), reference)
     }
 
     /// A fact alone: no row was refused.

@@ -49,7 +49,8 @@ impl Table {
     }
 }
 
-fn start_at(starts: &[Start], node: usize) -> Start
+/// Whose walk a node is.
+pub fn start_at(starts: &[Start], node: usize) -> Start
     requires { node < length starts.now }
     ensures { IsNodeAt starts.now node result }
 {
