@@ -9,3 +9,4 @@ pub mod RowComes
 pub mod Standing
 pub mod Waits
 pub mod Finds
+pub mod Defined

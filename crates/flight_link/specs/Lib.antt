@@ -6,3 +6,4 @@ pub mod Origins
 pub mod Nodes
 pub mod Growth
 pub mod Waiting
+pub mod Least

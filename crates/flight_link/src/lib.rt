@@ -22,6 +22,7 @@ mod room;
 mod settle;
 mod step;
 mod table;
+mod undefined;
 
 pub use fault::{LinkFault, LinkKind};
 pub use found::{Found, Seen, Spot};

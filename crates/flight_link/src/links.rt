@@ -1,5 +1,6 @@
 ghost use Rattle.std.specs.Prelude.{◌≡◌, ◌≢◌, ◌++◌, ◌∷◌, [], ◌<◌, ◌^◌, ◌↔◌, IsTrue, OnOk, OnErr};
 ghost use Rattle.flight_place.specs.Linked.{rows_of, FollowOn};
+ghost use Rattle.flight_place.specs.Good.{IsLeastUndefined};
 ghost use Rattle.flight_link.specs.declared.fault.LinkKind.{LinkKind};
 ghost use Rattle.flight_link.specs.Adding.{is_of_stream as is_of_stream_spec, IsPlaced, MayFollow, IsRefused};
 ghost use Rattle.flight_link.specs.Finding.{IsFound};
@@ -65,6 +66,13 @@ impl Links {
         ensures { IsFound self.now reference.now result }
     {
         self.table.find(self.states.as_slice(), reference)
+    }
+
+    /// The least id of a reference that a row holds and that is not defined. None where there is none.
+    pub fn undefined(&self) -> Option<u32>
+        ensures { IsLeastUndefined self.now result }
+    {
+        self.table.least_undefined(self.states.as_slice())
     }
 
     /// A fact alone: no row was refused.

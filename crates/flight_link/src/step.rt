@@ -12,7 +12,7 @@ pub fn step_down(place: &Place, name: &Text) -> Option<u32>
 {
     match place {
         Place::Array(numbers) => item(numbers.as_slice(), name),
-        Place::Object(props) => property_of(props.as_slice(), name),
+        Place::Object(props) => property_of(props.as_slice(), name.as_str()),
         Place::Element { tag, key, props } => part_of(*tag, *key, *props, name),
         _ => None,
     }
@@ -54,11 +54,11 @@ fn spells(text: &str, number: u64) -> bool
 }
 
 /// The property of a name.
-fn property_of(props: &[Named], name: &Text) -> Option<u32>
+pub fn property_of(props: &[Named], name: &str) -> Option<u32>
     ensures { result ≡ property props.now name.now }
 {
     for prop in props {
-        if prop.name == *name {
+        if prop.name.as_str() == name {
             return Some(prop.place);
         }
     }

@@ -107,7 +107,8 @@ impl Table {
     }
 }
 
-fn row_at(rows: &[PlacedRow], index: usize) -> Option<&PlacedRow>
+/// The row of a number.
+pub fn row_at(rows: &[PlacedRow], index: usize) -> Option<&PlacedRow>
     ensures { option_copied result ≡ slice_get rows.now index }
 {
     rows.get(index)
