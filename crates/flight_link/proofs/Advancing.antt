@@ -1,11 +1,10 @@
 -- Walks on from places and from nodes.
-use Rattle.std.proofs.Common.{◌≡◌, ◌≢◌, ℕ, zero, suc, ◌+◌, ◌-◌, ◌<◌, ◌≤◌, Bool, true, false, List, [], ◌∷◌, ◌++◌, length, drop, Option, Some, None, slice_get, refl, sym, ◌∙◌, ap, subst, arith, inl, inr, ◌⊎◌, length-append, length-drop, append_assoc, take}
+use Rattle.std.proofs.Common.{◌≡◌, ℕ, suc, ◌+◌, ◌-◌, ◌<◌, ◌≤◌, true, false, List, [], ◌∷◌, ◌++◌, length, drop, Some, slice_get, refl, sym, ◌∙◌, ap, subst, arith, inl, inr, ◌⊎◌, length-append, length-drop, append_assoc, take}
 use Rattle.std.proofs.lemmas.List.{drop_at, drop-drop, take-append-drop}
 use Rattle.std.proofs.lemmas.Bool.{false≢true}
-use Rattle.std.proofs.lemmas.Option.{none-some, same_Some, slice_get_within, slice_get-get_or}
-use Rattle.flight_place.specs.declared.place.Place.{Place}
+use Rattle.std.proofs.lemmas.Option.{same_Some, slice_get_within}
 use Rattle.flight_place.specs.declared.place.PlacedRow.{PlacedRow}
-use Rattle.flight_place.specs.Resolve.{Path, Stand, to, here, found, nowhere, Turn, on, ends, turn}
+use Rattle.flight_place.specs.Resolve.{Path, Stand, here, nowhere, Turn, on, ends, turn}
 use Rattle.flight_link.specs.declared.found.Spot.{Spot}
 use Rattle.flight_link.specs.declared.node.Start.{Start}
 use Rattle.flight_link.specs.declared.node.Start.TheVariants.{Place as AtPlace}
@@ -13,8 +12,8 @@ use Rattle.flight_link.specs.declared.node.State.{State}
 use Rattle.flight_link.specs.declared.node.State.TheVariants.{Absent, Ended, Lost, Behind}
 use Rattle.flight_link.specs.declared.table.Table.{Table}
 use Rattle.flight_link.specs.declared.table.Step.TheVariants.{Stops, Leaves, To, Meets}
-use Rattle.flight_link.specs.Nodes.{IsPlain, place_in, spot_of, followed, IsTable, IsStop, IsStep, IsNodeAt, Come, IsThere, Reaches, with_path, last_names, stand, ComesBehind, Gets, HasBegun, IsSound, AreSound, Descends, Advances, HasNode, AreStates, TakesStep, IsQuiet, is_done, is_ended, steps_left}
-use Rattle.flight_link.proofs.Turns.{come_on, come_here, come_by_turn, come_with, with_nothing, reaches_from, reaches_come, reaches_lost, reaches_ended}
+use Rattle.flight_link.specs.Nodes.{IsPlain, spot_of, IsTable, IsStop, IsStep, IsNodeAt, Come, IsThere, Reaches, with_path, last_names, stand, Gets, IsSound, Descends, Advances, HasNode, AreStates, TakesStep, IsQuiet, is_done, is_ended, steps_left}
+use Rattle.flight_link.proofs.Turns.{come_here, come_by_turn, reaches_from, reaches_come, reaches_lost, reaches_ended}
 use Rattle.flight_link.proofs.PlainRows.{place_there}
 use Rattle.flight_link.proofs.Stepping.{stop_ends}
 

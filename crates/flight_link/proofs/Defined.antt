@@ -1,7 +1,7 @@
 -- Which references are not defined.
-use Rattle.std.proofs.Common.{◌≡◌, ◌≢◌, ℕ, zero, suc, ◌+◌, ◌<◌, ◌≤◌, ◌⊎◌, Bool, true, false, List, [], ◌∷◌, ◌++◌, length, take, Option, Some, None, option_and_then, slice_get, refl, sym, ◌∙◌, ap, subst, arith, inl, inr, min}
+use Rattle.std.proofs.Common.{◌≡◌, ◌≢◌, ℕ, zero, suc, ◌≤◌, ◌⊎◌, Bool, true, false, List, [], ◌∷◌, ◌++◌, length, Option, Some, None, option_and_then, slice_get, refl, sym, ◌∙◌, ap, subst, arith, inl, inr, min}
 use Rattle.std.proofs.lemmas.Bool.{false≢true}
-use Rattle.std.proofs.lemmas.Option.{none-some, same_Some, slice_get_within}
+use Rattle.std.proofs.lemmas.Option.{none-some}
 use Rattle.flight_place.specs.declared.place.Place.{Place}
 use Rattle.flight_place.specs.declared.place.Place.TheVariants as place
 use Rattle.flight_place.specs.declared.place.PlaceTree.{PlaceTree}
@@ -14,8 +14,8 @@ use Rattle.std.specs.Prelude.{is_some, ◌&&◌, ◌||◌, codes}
 use Rattle.flight_place.specs.Linked as linked
 use Rattle.flight_place.specs.Linked.{rows_of, place_at, first_place, beside}
 use Rattle.flight_place.specs.Meaning.{Written, Token, entry, both, entries, slots_in, slots_found, Reference, text_at, bound_at, reference_with, reference_in, reference_by, reference_of, there}
-use Rattle.flight_place.specs.Resolve.{Path, property, to, Found, found, stream, not_yet, nowhere, Ends, IsEnd, ComesToAnEnd}
-use Rattle.flight_place.specs.Good.{id_of, IsDefined, IsTokenDefined, IsHeld, IsUndefined, IsLeastUndefined}
+use Rattle.flight_place.specs.Resolve.{Path, property, to, Found, found, stream, not_yet, nowhere, IsEnd, ComesToAnEnd}
+use Rattle.flight_place.specs.Good.{IsDefined, IsTokenDefined, IsHeld, IsLeastUndefined}
 use Rattle.flight_place.proofs.Walking.{one_end, turn_ends}
 use Rattle.flight_place.proofs.Paths.{absent_turn}
 use Rattle.flight_link.specs.declared.found.Spot.{Spot}
@@ -56,7 +56,6 @@ le_or (suc m) (suc n) = elim (le_or m n) [ inl h ↦ inl (omega (arith, h)) | in
 
 -- ---- the least of two
 
-
 abbrev pub Either : (Place → Type 0) → (Place → Type 0) → Place → Type 0
 Either P Q at = P at ⊎ Q at
 
@@ -78,6 +77,7 @@ least_both rows P Q (Some m) (Some n) h k = (go (m_or_n m n), λ other u. undefi
   where
     m_or_n : (m n : ℕ) → (min m n ≡ m) ⊎ (min m n ≡ n)
     m_or_n m n = elim (le_or m n) [ inl h ↦ inl (omega arith) | inr h ↦ inr (omega arith) ]
+
     go : (min m n ≡ m) ⊎ (min m n ≡ n) → IsUndefinedIn rows (Either P Q) (min m n)
     go (inl e) = undefined_left rows P Q (min m n) (subst (IsUndefinedIn rows P) (sym e) h.0)
     go (inr e) = undefined_right rows P Q (min m n) (subst (IsUndefinedIn rows Q) (sym e) k.0)
@@ -214,6 +214,7 @@ token_ended t states token r s table h = (λ e. forth (or_true (is_some (slots_i
   where
     stands : place_at t.rows.items (spot_of t.rows.items s) ≡ place_in t.rows.items s
     stands = place_there t.rows.items s h.1.0 table.plain h.1.1 ∙ sym h.1.1
+
     forth : (is_some (slots_in token t.rows.items (spot_of t.rows.items s) (place_in t.rows.items s)) ≡ true) ⊎ (fails_in (place_in t.rows.items s) ≡ true) → IsTokenDefined t.rows.items token r
     forth (inl e) =
         let x = some_true (slots_in token t.rows.items (spot_of t.rows.items s) (place_in t.rows.items s)) e in
@@ -221,17 +222,18 @@ token_ended t states token r s table h = (λ e. forth (or_true (is_some (slots_i
     forth (inr e) =
         let x = failed_in (place_in t.rows.items s) e in
         inr (x.0, (spot_of t.rows.items s, h.0, stands ∙ x.1))
+
     back : IsTokenDefined t.rows.items token r → token_at token t.rows.items s ≡ true
     back (inl d) =
         let same = one_end t.rows.items (to r.id r.path) d.1.0 (found (spot_of t.rows.items s)) d.1.1 h.0 in
         or_left (is_some (slots_in token t.rows.items (spot_of t.rows.items s) (place_in t.rows.items s))) (fails_in (place_in t.rows.items s))
-          (some_is (slots_in token t.rows.items (spot_of t.rows.items s) (place_in t.rows.items s)) d.0
-            (sym (ap (slots_in token t.rows.items (spot_of t.rows.items s)) stands) ∙ (ap (slots_found token t.rows.items) (sym same) ∙ d.1.2)))
+        (some_is (slots_in token t.rows.items (spot_of t.rows.items s) (place_in t.rows.items s)) d.0
+        (sym (ap (slots_in token t.rows.items (spot_of t.rows.items s)) stands) ∙ (ap (slots_found token t.rows.items) (sym same) ∙ d.1.2)))
     back (inr d) =
         let same = one_end t.rows.items (to r.id r.path) (found d.1.0) (found (spot_of t.rows.items s)) d.1.1 h.0 in
         let spot : d.1.0 ≡ spot_of t.rows.items s = cc in
         or_right (is_some (slots_in token t.rows.items (spot_of t.rows.items s) (place_in t.rows.items s))) (fails_in (place_in t.rows.items s))
-          (ap fails_in (sym stands ∙ (ap (place_at t.rows.items) (sym spot) ∙ d.1.2)))
+        (ap fails_in (sym stands ∙ (ap (place_at t.rows.items) (sym spot) ∙ d.1.2)))
 
 pub token_never : (t : Table) (states : List State) (token : Token) (r : Ref) (state : State) → AreLinked t states → IsResolved t states r.id r.path state → ((s : Spot) → state ≢ Ended s) → IsTokenDefined t.rows.items token r → ⊥
 token_never t states token r state linked h other (inl d) = other_never t states r.id r.path state linked h other (d.1.0, d.1.1, is_end d.1.0 d.1.2)
@@ -261,12 +263,15 @@ refers t row r table e = ap (λ ts. is_some (option_and_then (λ (x : PlaceTree)
   where
     there_is : (n : ℕ) → place_at t.rows.items (beside (first_place r.id) n) ≡ place_in t.rows.items (record { row = row; place = n })
     there_is n = ap (λ (x : linked.Spot). place_at t.rows.items (beside x n)) (sym (spot_in_row t.rows.items (record { row = row; place = 0 }) r e)) ∙ place_of_row t.rows.items (record { row = row; place = 0 }) r n table.plain e
+
     texts : (o : Option ℕ) → is_some (option_and_then (λ n. text_at (there t.rows.items (first_place r.id) n)) o) ≡ text_in t.rows.items row o
     texts None = refl
     texts (Some n) = ap (λ x. is_some (text_at x)) (there_is n)
+
     bounds : (o : Option ℕ) → is_some (option_and_then (λ n. bound_at (beside (first_place r.id) n) (there t.rows.items (first_place r.id) n)) o) ≡ bound_in t.rows.items row o
     bounds None = refl
     bounds (Some n) = bind_some (beside (first_place r.id) n) (there t.rows.items (first_place r.id) n) ∙ ap may_bind (there_is n)
+
     by_place : (o : Option Place) → is_some (reference_in t.rows.items (first_place r.id) o) ≡ refers_in t.rows.items row kind.Model o
     by_place (Some (place.Object props)) =
         both_true (option_and_then (λ n. text_at (there t.rows.items (first_place r.id) n)) (property props (codes "id"))) (option_and_then (λ n. bound_at (beside (first_place r.id) n) (there t.rows.items (first_place r.id) n)) (property props (codes "bound")))
@@ -274,6 +279,7 @@ refers t row r table e = ap (λ ts. is_some (option_and_then (λ (x : PlaceTree)
         ∙ ap (λ b. text_in t.rows.items row (property props (codes "id")) && b) (bounds (property props (codes "bound"))))
     by_place (Some at) = refl
     by_place None = refl
+
     by_kind : (k : RowKind) → is_some (reference_by t.rows.items r.id k) ≡ refers_in t.rows.items row k (place_in t.rows.items (record { row = row; place = 0 }))
     by_kind kind.Model = ap (λ o. is_some (reference_in t.rows.items (first_place r.id) o)) (there_is 0) ∙ by_place (place_in t.rows.items (record { row = row; place = 0 }))
     by_kind k = refl

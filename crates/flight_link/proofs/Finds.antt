@@ -1,12 +1,12 @@
 -- What references lead to, as answers.
-use Rattle.std.proofs.Common.{◌≡◌, ◌≢◌, ℕ, zero, suc, ◌+◌, ◌<◌, ◌≤◌, Bool, true, false, List, [], ◌∷◌, ◌++◌, length, take, drop, Option, Some, None, slice_get, refl, sym, ◌∙◌, ap, subst, arith, inl, inr, length-append}
+use Rattle.std.proofs.Common.{◌≡◌, ℕ, zero, suc, ◌+◌, List, [], ◌∷◌, length, take, drop, Some, slice_get, refl, sym, ◌∙◌, ap, arith, inl, inr, length-append}
 use Rattle.std.proofs.lemmas.List.{take-append-drop}
-use Rattle.std.proofs.lemmas.Option.{none-some, slice_get_within}
+use Rattle.std.proofs.lemmas.Option.{slice_get_within}
 use Rattle.flight_text.specs.declared.mark.Ref.{Ref}
 use Rattle.flight_place.specs.declared.place.Place.{Place}
 use Rattle.flight_place.specs.declared.place.PlacedRow.{PlacedRow}
 use Rattle.flight_place.specs.Linked.{rows_of}
-use Rattle.flight_place.specs.Resolve.{Path, to, found, not_yet, nowhere, Ends, LeadsNowhere}
+use Rattle.flight_place.specs.Resolve.{to, not_yet}
 use Rattle.flight_place.proofs.Walking.{turn_ends}
 use Rattle.flight_place.proofs.Paths.{absent_turn}
 use Rattle.flight_place.proofs.MoreRows.{rows_of-append}
@@ -17,7 +17,7 @@ use Rattle.flight_link.specs.declared.node.State.TheVariants.{Absent, Ended, Los
 use Rattle.flight_link.specs.declared.table.Table.{Table}
 use Rattle.flight_link.specs.Spots.{IsSpot}
 use Rattle.flight_link.specs.Finding.{IsFound}
-use Rattle.flight_link.specs.Nodes.{IsPlain, IsTable, IsStop, HasNode, place_in, spot_of, stand, last_names, with_path}
+use Rattle.flight_link.specs.Nodes.{IsPlain, IsTable, place_in, spot_of, stand, last_names, with_path}
 use Rattle.flight_link.specs.Waiting.{IsResolved, WaitsFor, WaitsForever}
 use Rattle.flight_link.proofs.PlainRows.{held, one_row, row_there, spot_in_row}
 use Rattle.flight_link.proofs.Waits.{ends_come, endless_come}
@@ -34,7 +34,7 @@ none_before rows n r plain e =
     let w = slice_get_within (rows_of r.id (drop n rows)) h.0 r.tree h.1 in
     let whole : length (rows_of r.id rows) ≡ 1 = ap length (one_row rows n r plain e) in
     let parts : length (rows_of r.id rows) ≡ length (rows_of r.id (take n rows)) + length (rows_of r.id (drop n rows)) =
-        ap (λ x. length (rows_of r.id x)) (sym (take-append-drop n rows)) ∙ (ap length (rows_of-append r.id (take n rows) (drop n rows)) ∙ length-append (rows_of r.id (take n rows)) (rows_of r.id (drop n rows))) in
+    ap (λ x. length (rows_of r.id x)) (sym (take-append-drop n rows)) ∙ (ap length (rows_of-append r.id (take n rows) (drop n rows)) ∙ length-append (rows_of r.id (take n rows)) (rows_of r.id (drop n rows))) in
     omega (arith, w, whole, parts)
 
 pub is_spot : (rows : List PlacedRow) (s : Spot) (at : Place) → IsPlain rows → place_in rows s ≡ Some at → IsSpot rows s (spot_of rows s)

@@ -1,17 +1,15 @@
 -- Rows and nodes come behind the old ones.
-use Rattle.std.proofs.Common.{◌≡◌, ◌≢◌, ℕ, zero, suc, ◌+◌, ◌-◌, ◌<◌, ◌≤◌, nat_eq, cond, Bool, true, false, List, [], ◌∷◌, ◌++◌, length, drop, Option, Some, None, option_and_then, slice_get, slice_set, refl, sym, ◌∙◌, ap, subst, arith, inl, inr, ◌⊎◌, length-append, append_assoc, append-nil}
+use Rattle.std.proofs.Common.{◌≡◌, ◌≢◌, ℕ, zero, suc, ◌+◌, ◌<◌, nat_eq, cond, true, false, List, [], ◌∷◌, ◌++◌, length, Option, Some, None, option_and_then, slice_get, refl, sym, ◌∙◌, ap, subst, arith, inl, inr, ◌⊎◌, length-append, append_assoc, append-nil}
 use Rattle.std.specs.Prelude.{All}
 use Rattle.std.specs.HashMap.{get}
-use Rattle.std.proofs.lemmas.Bool.{false≢true}
 use Rattle.std.proofs.lemmas.Bool.Decides.{eqb_tells}
-use Rattle.std.proofs.lemmas.Option.{none-some, same_Some, slice_get_within, slice_get-get_or, get_or_from_slice_get}
+use Rattle.std.proofs.lemmas.Option.{none-some, same_Some, slice_get_within}
 use Rattle.flight_place.specs.declared.place.Place.{Place}
 use Rattle.flight_place.specs.declared.place.PlaceTree.{PlaceTree}
 use Rattle.flight_place.specs.declared.place.PlacedRow.{PlacedRow}
-use Rattle.flight_place.specs.Linked as linked
-use Rattle.flight_place.specs.Linked.{rows_of, place_at, first_place}
-use Rattle.flight_place.specs.Resolve.{Path, Stand, to, here, found, not_yet, nowhere, Turn, on, ends, enter, go_to, go_from, turn}
-use Rattle.flight_place.proofs.MoreRows.{rows_of-append, rows_of-same, rows_of-other, slice_get-front, place-more}
+use Rattle.flight_place.specs.Linked.{rows_of, place_at}
+use Rattle.flight_place.specs.Resolve.{Path, Stand, to, here, found, nowhere, Turn, on, ends, enter, go_to, go_from, turn}
+use Rattle.flight_place.proofs.MoreRows.{rows_of-append, rows_of-other, slice_get-front, place-more}
 use Rattle.flight_link.specs.declared.found.Spot.{Spot}
 use Rattle.flight_link.specs.declared.node.Start.{Start}
 use Rattle.flight_link.specs.declared.node.Start.TheVariants.{Id, Place as AtPlace}
@@ -19,7 +17,7 @@ use Rattle.flight_link.specs.declared.node.State.{State}
 use Rattle.flight_link.specs.declared.node.State.TheVariants.{Absent, Ended, Lost, Behind}
 use Rattle.flight_link.specs.declared.table.Known.{Known}
 use Rattle.flight_link.specs.declared.table.Table.{Table}
-use Rattle.flight_link.specs.Nodes.{IsPlain, IsFine, place_in, spot_of, followed, ComeBy, Come, IsThere, Reaches, with_path, last_names, stand, names_in, names_of, ComesBehind, Gets, HasBegun, HasNoRow, IsSound, AreSound, IsNodeAt, IsIndexed, AreIndexed, IsStart, AreStarts, IsItsNode, IsRowOf, IsKnown, IsTable, AreStates, is_done, is_ended, has_ended, IsQuiet, AreQuiet, node_in}
+use Rattle.flight_link.specs.Nodes.{IsPlain, IsFine, place_in, spot_of, followed, ComeBy, Come, IsThere, Reaches, with_path, last_names, stand, names_in, names_of, Gets, HasBegun, HasNoRow, IsSound, AreSound, IsNodeAt, IsIndexed, IsStart, AreStarts, IsItsNode, IsRowOf, IsKnown, IsTable, AreStates, has_ended, IsQuiet, AreQuiet, node_in}
 use Rattle.flight_link.specs.declared.fresh.Fresh.{Fresh}
 use Rattle.flight_link.specs.Growth.{Keeps, IsFreshAt, IsFreshNode, number_in, AreFresh}
 use Rattle.flight_link.proofs.PlainRows.{place_stays, spot_stays}

@@ -1,9 +1,9 @@
 -- Rows of which each id has one at most: their places by the numbers of rows.
-use Rattle.std.proofs.Common.{◌≡◌, ◌≢◌, ℕ, zero, suc, ◌==◌, nat_eq, ◌+◌, ◌<◌, ◌≤◌, Bool, true, false, cond, List, [], ◌∷◌, ◌++◌, map, length, Option, Some, None, option_and_then, slice_get, refl, sym, ◌∙◌, ap, subst, arith, inl, inr}
-use Rattle.std.specs.Prelude.{option_map, unwrap_or, All}
+use Rattle.std.proofs.Common.{◌≡◌, ℕ, zero, suc, ◌==◌, Bool, true, false, cond, List, [], ◌∷◌, ◌++◌, map, Option, Some, None, option_and_then, slice_get, refl, sym, ◌∙◌, ap, subst, arith}
+use Rattle.std.specs.Prelude.{option_map, unwrap_or}
 use Rattle.std.specs.List.{filter}
 use Rattle.std.proofs.lemmas.Bool.Decides.{nat_tests, Decides-eqb}
-use Rattle.std.proofs.lemmas.Option.{none-some, same_Some, slice_get_within}
+use Rattle.std.proofs.lemmas.Option.{none-some, same_Some}
 use Rattle.flight_row.specs.declared.row.RowKind.{RowKind}
 use Rattle.flight_row.specs.declared.row.RowKind.TheVariants as row
 use Rattle.flight_place.specs.declared.place.Place.{Place}
@@ -11,12 +11,12 @@ use Rattle.flight_place.specs.declared.place.PlaceTree.{PlaceTree}
 use Rattle.flight_place.specs.declared.place.PlacedRow.{PlacedRow}
 use Rattle.flight_place.specs.Linked as linked
 use Rattle.flight_place.specs.Linked.{is_of, rows_of, Standing, Verdict, goes, refused, absent, defined, twice, next, after, standing_of, FollowOn, place_at, first_place, beside}
-use Rattle.flight_place.specs.Resolve.{Path, Stand, to, here, Turn, on, ends, turn}
+use Rattle.flight_place.specs.Resolve.{Path, to, here, on, turn}
 use Rattle.flight_place.proofs.Paths.{IsEnteredKind, IsEntered, entered_turn}
-use Rattle.flight_place.proofs.MoreRows.{rows_of-append, rows_of-same, rows_of-other, slice_get-front, place-more, rows_of-first}
+use Rattle.flight_place.proofs.MoreRows.{rows_of-same, rows_of-other, slice_get-front}
 use Rattle.flight_link.specs.Adding.{is_of_stream}
 use Rattle.flight_link.specs.declared.found.Spot.{Spot}
-use Rattle.flight_link.specs.Nodes.{IsPlainOf, IsPlain, IsFine, place_in, id_at, spot_of}
+use Rattle.flight_link.specs.Nodes.{IsPlainOf, IsPlain, place_in, id_at, spot_of}
 
 -- ---- the one row of an id
 

@@ -1,30 +1,28 @@
 -- A row comes, with the nodes of its places.
-use Rattle.std.proofs.Common.{◌≡◌, ◌≢◌, ℕ, zero, suc, ◌+◌, ◌-◌, ◌<◌, ◌≤◌, nat_eq, cond, Bool, true, false, List, [], ◌∷◌, ◌++◌, length, drop, Option, Some, None, option_and_then, slice_get, slice_set, refl, sym, ◌∙◌, ap, subst, arith, inl, inr, ◌⊎◌, length-append, append-nil}
+use Rattle.std.proofs.Common.{◌≡◌, ◌≢◌, ℕ, zero, suc, ◌+◌, ◌<◌, nat_eq, cond, true, false, List, [], ◌∷◌, ◌++◌, length, Option, Some, None, option_and_then, slice_get, slice_set, refl, sym, ◌∙◌, ap, subst, arith, inl, inr, ◌⊎◌, length-append, append-nil}
 use Rattle.std.specs.HashMap.{get}
 use Rattle.std.specs.Prelude.{All}
 use Rattle.std.proofs.lemmas.Bool.Decides.{eqb_tells}
 use Rattle.std.proofs.lemmas.List.{length-set}
 use Rattle.std.proofs.lemmas.List.Elements.{All-push}
-use Rattle.std.proofs.lemmas.Option.{none-some, same_Some, slice_get_within, slice_get-get_or, get_or_from_slice_get}
+use Rattle.std.proofs.lemmas.Option.{none-some, same_Some, slice_get_within}
 use Rattle.flight_place.specs.declared.place.Place.{Place}
 use Rattle.flight_place.specs.declared.place.Place.TheVariants as place
 use Rattle.flight_place.specs.declared.place.PlacedRow.{PlacedRow}
 use Rattle.flight_place.specs.Linked as linked
 use Rattle.flight_place.specs.Linked.{rows_of, place_at, first_place}
-use Rattle.flight_place.specs.Resolve.{Path, Stand, to, here, found, Turn, on, ends, go_from, turn}
+use Rattle.flight_place.specs.Resolve.{Path, to, here, on, go_from}
 use Rattle.flight_place.proofs.MoreRows.{rows_of-other, slice_get-front}
-use Rattle.flight_link.specs.Adding.{is_of_stream}
 use Rattle.flight_link.specs.declared.found.Spot.{Spot}
 use Rattle.flight_link.specs.declared.fresh.Fresh.{Fresh}
 use Rattle.flight_link.specs.declared.node.Start.{Start}
 use Rattle.flight_link.specs.declared.node.Start.TheVariants.{Id, Place as AtPlace}
 use Rattle.flight_link.specs.declared.node.State.{State}
-use Rattle.flight_link.specs.declared.node.State.TheVariants.{Absent, Ended, Lost, Behind}
+use Rattle.flight_link.specs.declared.node.State.TheVariants.{Behind}
 use Rattle.flight_link.specs.declared.table.Known.{Known}
 use Rattle.flight_link.specs.declared.table.Table.{Table}
-use Rattle.flight_link.specs.Nodes.{IsPlain, IsFine, place_in, spot_of, followed, Come, IsThere, Reaches, with_path, last_names, stand, names_in, names_of, ComesBehind, Gets, HasBegun, HasNoRow, IsSound, AreSound, IsNodeAt, IsIndexed, AreIndexed, IsStart, AreStarts, IsItsNode, IsRowOf, IsKnown, IsTable, AreStates, node_in, IsStop}
-use Rattle.flight_link.specs.Growth.{IsFreshAt, IsFreshNode, number_in, AreFresh, root_by, root_of, MayCome}
-use Rattle.flight_link.proofs.Turns.{come_here}
+use Rattle.flight_link.specs.Nodes.{IsPlain, IsFine, place_in, spot_of, followed, names_in, names_of, ComesBehind, HasBegun, IsSound, AreSound, IsNodeAt, IsIndexed, AreIndexed, IsStart, AreStarts, IsItsNode, IsRowOf, IsKnown, IsTable, AreStates, node_in, IsStop}
+use Rattle.flight_link.specs.Growth.{IsFreshAt, IsFreshNode, number_in, root_by, root_of, MayCome}
 use Rattle.flight_link.proofs.PlainRows.{row_there, place_there, spot_in_row, plain_more, place_stays, into_row}
 use Rattle.flight_link.proofs.Stepping.{stop_ends}
 use Rattle.flight_link.proofs.Advancing.{end_itself, end_last, stop_there}

@@ -1,23 +1,17 @@
 -- How ids stand, and which rows may follow.
-use Rattle.std.proofs.Common.{◌≡◌, ◌≢◌, ℕ, zero, suc, ◌+◌, ◌<◌, ◌≤◌, ◌↔◌, Bool, true, false, List, [], ◌∷◌, ◌++◌, length, Option, Some, None, slice_get, refl, sym, ◌∙◌, ap, subst, arith, length-append, IsTrue}
-use Rattle.std.specs.Prelude.{is_some, if◌then◌else◌, Result, Ok, Err, option_and_then, All}
+use Rattle.std.proofs.Common.{◌≡◌, ◌≢◌, ℕ, true, false, List, [], ◌∷◌, Option, Some, None, refl, sym, ◌∙◌, ap, subst}
+use Rattle.std.specs.Prelude.{is_some}
 use Rattle.std.proofs.lemmas.Bool.{false≢true}
-use Rattle.std.proofs.lemmas.Option.{none-some, same_Some}
-use Rattle.flight_row.specs.declared.row.Row.{Row}
 use Rattle.flight_row.specs.declared.row.RowKind.{RowKind}
 use Rattle.flight_row.specs.declared.row.RowKind.TheVariants as row
-use Rattle.flight_place.specs.declared.place.Manner.{Manner}
-use Rattle.flight_place.specs.declared.place.Place.{Place}
 use Rattle.flight_place.specs.declared.place.PlaceTree.{PlaceTree}
 use Rattle.flight_place.specs.declared.place.PlacedRow.{PlacedRow}
-use Rattle.flight_place.specs.Linked.{rows_of, Standing, Verdict, goes, refused, absent, defined, twice, next, after, standing_of}
+use Rattle.flight_place.specs.Linked.{rows_of, goes, refused, absent, defined, twice, next, after}
 use Rattle.flight_place.proofs.Within.{tree_within}
 use Rattle.flight_place.proofs.Rooted.{IsOfStream, tree_root}
 use Rattle.flight_link.specs.Adding.{IsPlaced, is_of_stream, HasVerdict, MayFollow, IsRefused}
 use Rattle.flight_link.specs.declared.fault.LinkKind.{LinkKind}
 use Rattle.flight_link.specs.declared.fault.LinkKind.TheVariants as kind
-use Rattle.flight_link.specs.declared.fault.LinkFault.{LinkFault}
-use Rattle.flight_link.specs.declared.fault.LinkFault.TheVariants as fault
 use Rattle.flight_link.specs.Nodes.{IsPlainOf, IsPlain, IsFine, IsRowOf}
 use Rattle.flight_link.proofs.PlainRows.{one_row}
 
@@ -64,7 +58,6 @@ pub is_twice : (rows : List PlacedRow) (id : ℕ) (k : RowKind) → IsPlain rows
 is_twice rows id k plain some e =
     let t = filled_some (rows_of id rows) (plain id) some in
     (defined, ap (after (goes absent)) t.1 ∙ ap (λ v. after v []) (begins t.0.kind t.2), again k e)
-
 
 pub refuses_not_built : (rows : List PlacedRow) (id : ℕ) (of_kind : RowKind) (k : LinkKind) → kind.NotBuilt id ≡ k → is_of_stream of_kind ≡ true → IsRefused rows id of_kind k
 refuses_not_built rows id of_kind k e h = subst (IsRefused rows id of_kind) e (refl, h)

@@ -1,8 +1,6 @@
 -- Turns one after another, and what more names change.
-use Rattle.std.proofs.Common.{◌≡◌, ◌≢◌, ℕ, zero, suc, ◌+◌, ◌<◌, ◌≤◌, Bool, true, false, List, [], ◌∷◌, ◌++◌, length, Option, Some, None, refl, sym, ◌∙◌, ap, subst, arith, append_assoc, inl, inr}
+use Rattle.std.proofs.Common.{◌≡◌, ℕ, zero, suc, List, [], ◌∷◌, ◌++◌, Option, Some, None, refl, sym, ◌∙◌, ap, subst, append_assoc}
 use Rattle.std.proofs.lemmas.List.{append-nil}
-use Rattle.std.proofs.lemmas.Option.{none-some, same_Some}
-use Rattle.std.specs.Prelude.{slice_get}
 use Rattle.flight_value.specs.declared.graph.Atom.TheVariants as atom
 use Rattle.flight_row.specs.declared.row.RowKind.{RowKind}
 use Rattle.flight_row.specs.declared.row.RowKind.TheVariants as row
@@ -10,9 +8,9 @@ use Rattle.flight_place.specs.declared.place.Place.{Place}
 use Rattle.flight_place.specs.declared.place.Place.TheVariants as place
 use Rattle.flight_place.specs.declared.place.PlaceTree.{PlaceTree}
 use Rattle.flight_place.specs.declared.place.PlacedRow.{PlacedRow}
-use Rattle.flight_place.specs.Linked.{rows_of, Spot, place_at, first_place, beside}
-use Rattle.flight_place.specs.Resolve.{Path, step, Stand, to, here, Found, found, stream, not_yet, nowhere, Turn, on, ends, end_at_stream, enter, go_to, go_down, go_on, go_from, turn, after_turn, walk_by, Ends, Endless}
-use Rattle.flight_link.specs.Nodes.{followed, fails, ComeBy, Come, IsThere, Reaches, with_path}
+use Rattle.flight_place.specs.Linked.{rows_of, Spot, place_at}
+use Rattle.flight_place.specs.Resolve.{Path, step, Stand, to, here, Found, found, not_yet, nowhere, Turn, on, ends, enter, go_to, go_down, go_on, go_from, turn}
+use Rattle.flight_link.specs.Nodes.{ComeBy, Come, IsThere, Reaches, with_path}
 
 -- ---- turns
 

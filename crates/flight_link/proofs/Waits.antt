@@ -1,5 +1,5 @@
 -- Walks that have not ended: they end for want of a row, or never.
-use Rattle.std.proofs.Common.{◌≡◌, ◌≢◌, ℕ, zero, suc, ◌+◌, ◌-◌, ◌<◌, ◌≤◌, nat_eq, Bool, true, false, List, [], ◌∷◌, ◌++◌, length, Option, Some, None, slice_get, refl, sym, ◌∙◌, ap, subst, arith, inl, inr, ◌⊎◌, length-append}
+use Rattle.std.proofs.Common.{◌≡◌, ◌≢◌, ℕ, zero, suc, ◌+◌, ◌<◌, ◌≤◌, nat_eq, Bool, true, false, List, [], ◌∷◌, ◌++◌, length, Option, Some, None, slice_get, refl, sym, ◌∙◌, ap, subst, arith, inl, inr, ◌⊎◌, length-append}
 use Rattle.std.specs.Prelude.{MatchOption}
 use Rattle.std.specs.List.{AllByRecursion, IsDistinct, list_any}
 use Rattle.std.proofs.lemmas.Bool.{false≢true, eqb-true}
@@ -8,8 +8,7 @@ use Rattle.std.proofs.lemmas.Bool.Decides.{eqb_tells}
 use Rattle.std.proofs.lemmas.Map.Steps.{length-le_from_distinct_below}
 use Rattle.std.proofs.lemmas.Option.{none-some, same_Some, slice_get_within}
 use Rattle.flight_place.specs.declared.place.PlacedRow.{PlacedRow}
-use Rattle.flight_place.specs.Linked.{rows_of}
-use Rattle.flight_place.specs.Resolve.{Path, Stand, to, here, Found, found, stream, not_yet, nowhere, Turn, on, ends, turn, after_turn, walk_by, Ends, Endless}
+use Rattle.flight_place.specs.Resolve.{Path, Stand, to, Found, found, stream, not_yet, nowhere, ends, after_turn, walk_by, Ends, Endless}
 use Rattle.flight_place.proofs.Walking.{turn_forth, ends_back, turn_ends, endless_back}
 use Rattle.flight_place.proofs.Paths.{onward, front_by, endless-longer, absent_turn}
 use Rattle.flight_link.specs.declared.node.Start.{Start}
@@ -17,7 +16,7 @@ use Rattle.flight_link.specs.declared.node.Start.TheVariants.{Id, Place as AtPla
 use Rattle.flight_link.specs.declared.node.State.{State}
 use Rattle.flight_link.specs.declared.node.State.TheVariants.{Absent, Ended, Lost, Behind}
 use Rattle.flight_link.specs.declared.table.Table.{Table}
-use Rattle.flight_link.specs.Nodes.{ComeBy, Come, Reaches, with_path, last_names, stand, names_of, ComesBehind, Gets, HasBegun, HasNoRow, IsSound, IsNodeAt, HasNode, IsTable, AreStates, AreQuiet, IsQuiet, AreLinked, is_done, is_ended, has_ended, Advances}
+use Rattle.flight_link.specs.Nodes.{ComeBy, Come, Reaches, with_path, last_names, stand, names_of, HasBegun, HasNoRow, IsSound, IsNodeAt, HasNode, AreStates, IsQuiet, AreLinked, is_done, is_ended, has_ended, Advances}
 use Rattle.flight_link.specs.Waiting.{IsNotYet, Waits, IsResolved, WaitsFor, WaitsForever, id_of_start}
 use Rattle.flight_link.proofs.Turns.{come_on, come_here, come_by_turn, come_with, with_twice}
 use Rattle.flight_link.proofs.RowComes.{as_many}
@@ -93,7 +92,7 @@ waits_by (suc most) zero t states node start f le linked is waits w = absurd (no
 waits_by (suc most) (suc n) t states node start f le linked is waits w =
     let s = state_of t states node start linked.are_states is in
     go s.0 (linked.are_states.sound node start s.0 is s.1) (linked.quiet node s.0 s.1) (not_done states node s.0 s.1 waits) start refl
-      (λ other m g j small e is_other h. waits_by most j t states m other g small linked is_other h e)
+    (λ other m g j small e is_other h. waits_by most j t states m other g small linked is_other h e)
   where
     go : (state : State) → IsSound t.rows.items t.starts.items start state → IsQuiet states state → is_done state ≡ false → (x : Start) → x ≡ start → ((other : Start) (m : ℕ) (g : Found) (j : ℕ) → j ≤ most → walk_by j t.rows.items (stand t.rows.items other) ≡ Some g → IsNodeAt t.starts.items m other → has_ended states m ≡ false → IsNotYet g) → IsNotYet f
     go (Ended e) sound quiet undone x is rest = absurd (false≢true (sym undone))
@@ -191,17 +190,19 @@ apart_from a b ne = go (eqb_tells a b)
 not_again : (t : Table) (states : List State) (n node : ℕ) (k : ℕ) (xs : List ℕ) (at last : ℕ) → AreLinked t states → EndsWithin t n node → Chain (suc k) states node at → Visits states xs at last → AllByRecursion (λ y. nat_eq node y ≡ false) (xs ++ last ∷ [])
 not_again t states n node k [] at last linked w c v =
     (apart_from node last (λ same. ring n n k t states node (omega arith) linked (subst (Chain (suc k) states node) (v ∙ sym same) c) w), tt)
-not_again t states n node k (x ∷ xs) at last linked w c v =
-    (apart_from node x (λ same. ring n n k t states node (omega arith) linked (subst (Chain (suc k) states node) (sym v.0 ∙ sym same) c) w),
-     not_again t states n node (suc k) xs v.1.0 last linked w (chain_more (suc k) states node at v.1.0 v.1.1 c v.1.2) v.1.3)
+not_again t states n node k (x ∷ xs) at last linked w c v = (
+  apart_from node x (λ same. ring n n k t states node (omega arith) linked (subst (Chain (suc k) states node) (sym v.0 ∙ sym same) c) w),
+  not_again t states n node (suc k) xs v.1.0 last linked w (chain_more (suc k) states node at v.1.0 v.1.1 c v.1.2) v.1.3,
+)
 
 distinct : (t : Table) (states : List State) (n : ℕ) (xs : List ℕ) (node last : ℕ) → AreLinked t states → EndsWithin t n node → Visits states xs node last → IsDistinct nat_eq (xs ++ last ∷ [])
 unfolding IsDistinct
 distinct t states n [] node last linked w v = (tt, tt)
 distinct t states n (x ∷ xs) node last linked w v =
-    let a = ends_next n t states node v.1.0 v.1.1 linked v.1.2 w in
-    (subst (λ y. AllByRecursion (λ z. nat_eq y z ≡ false) (xs ++ last ∷ [])) (sym v.0) (not_again t states n node 0 xs v.1.0 last linked w (v.1.0, v.1.1, v.1.2, refl) v.1.3),
-     distinct t states a.0 xs v.1.0 last linked a.2 v.1.3)
+    let a = ends_next n t states node v.1.0 v.1.1 linked v.1.2 w in (
+      subst (λ y. AllByRecursion (λ z. nat_eq y z ≡ false) (xs ++ last ∷ [])) (sym v.0) (not_again t states n node 0 xs v.1.0 last linked w (v.1.0, v.1.1, v.1.2, refl) v.1.3),
+      distinct t states a.0 xs v.1.0 last linked a.2 v.1.3,
+    )
 
 either : (b c : Bool) → (b || c) ≡ true → (b ≡ true) ⊎ (c ≡ true)
 either true c e = inl refl
@@ -266,11 +267,12 @@ chain_goes t states node behind next left count linked is e =
       waits = linked.quiet behind (Behind next left) e;
       from = λ start at more.
           let f = is.from start at more in
-          let whole = come_on t.rows.items (stand t.rows.items is.has.0) b.next _ (come_by_turn t.rows.items (stand t.rows.items is.has.0) b.next b.is_next) b.gets.come in
-          (names ++ f.0,
-           come_on t.rows.items (with_path (stand t.rows.items start) more) (with_path (stand t.rows.items is.has.0) f.0) (with_path (stand t.rows.items b.gets.other) (names ++ f.0)) f.1
-             (subst (Come t.rows.items (with_path (stand t.rows.items is.has.0) f.0)) (with_twice (stand t.rows.items b.gets.other) names f.0)
-               (come_with t.rows.items (stand t.rows.items is.has.0) (with_path (stand t.rows.items b.gets.other) names) f.0 whole)));
+          let whole = come_on t.rows.items (stand t.rows.items is.has.0) b.next _ (come_by_turn t.rows.items (stand t.rows.items is.has.0) b.next b.is_next) b.gets.come in (
+            names ++ f.0,
+            come_on t.rows.items (with_path (stand t.rows.items start) more) (with_path (stand t.rows.items is.has.0) f.0) (with_path (stand t.rows.items b.gets.other) (names ++ f.0)) f.1
+                (subst (Come t.rows.items (with_path (stand t.rows.items is.has.0) f.0)) (with_twice (stand t.rows.items b.gets.other) names f.0)
+                (come_with t.rows.items (stand t.rows.items is.has.0) (with_path (stand t.rows.items b.gets.other) names) f.0 whole)),
+          );
     }
 
 pub chain_absent : (t : Table) (states : List State) (node behind count : ℕ) (start : Start) (answer : Option ℕ) → AreLinked t states → IsChain t states node behind count → slice_get states behind ≡ Some Absent → IsNodeAt t.starts.items behind start → answer ≡ id_of_start start → MatchOption answer (WaitsForever t node) (WaitsFor t node)
@@ -281,10 +283,12 @@ chain_absent t states node behind count start answer linked is e at is_answer =
     go : (start : Start) → IsNodeAt t.starts.items behind start → HasNoRow t.rows.items start → is.has.0 ≡ start → MatchOption (id_of_start start) (WaitsForever t node) (WaitsFor t node)
     go (AtPlace s) at none same = absurd none
     go (Id id) at none same = λ first is_first names.
-        let f = is.from first is_first names in
-        (f.0, ends_come t.rows.items (with_path (stand t.rows.items first) names) (to id f.0) (not_yet id f.0)
-          (subst (λ x. Come t.rows.items (with_path (stand t.rows.items first) names) (with_path (stand t.rows.items x) f.0)) same f.1)
-          (turn_ends t.rows.items (to id f.0) (not_yet id f.0) (absent_turn t.rows.items id f.0 none)))
+        let f = is.from first is_first names in (
+          f.0,
+          ends_come t.rows.items (with_path (stand t.rows.items first) names) (to id f.0) (not_yet id f.0)
+              (subst (λ x. Come t.rows.items (with_path (stand t.rows.items first) names) (with_path (stand t.rows.items x) f.0)) same f.1)
+              (turn_ends t.rows.items (to id f.0) (not_yet id f.0) (absent_turn t.rows.items id f.0 none)),
+        )
 
 pub chain_ended : {A : Type 0} (t : Table) (states : List State) (node behind count : ℕ) (state : State) → IsChain t states node behind count → slice_get states behind ≡ Some state → is_done state ≡ true → A
 chain_ended t states node behind count state is e done = absurd (false≢true (sym (not_done states behind state e is.waits) ∙ done))

@@ -1,5 +1,5 @@
 -- How the table grows.
-use Rattle.std.specs.Prelude.{ℕ, false, ◌+◌, ◌≡◌, List, [], ◌∷◌, ◌++◌, length, slice_get, Option, Some, None, option_and_then}
+use Rattle.std.specs.Prelude.{ℕ, false, ◌+◌, ◌≡◌, List, [], ◌++◌, length, slice_get, Option, Some, None, option_and_then}
 use Rattle.flight_place.specs.declared.place.Place.{Place}
 use Rattle.flight_place.specs.Resolve.{Path}
 use Rattle.flight_link.specs.declared.found.Spot.{Spot}

@@ -1,10 +1,10 @@
 -- The least id of a reference that is not defined.
-use Rattle.std.specs.Prelude.{ℕ, ◌≤◌, ◌≡◌, ◌⊎◌, ◌||◌, ◌&&◌, codes, Bool, true, false, List, [], ◌∷◌, min, is_some, slice_get, Option, Some, None, option_and_then}
+use Rattle.std.specs.Prelude.{ℕ, ◌≤◌, ◌≡◌, ◌||◌, ◌&&◌, codes, Bool, true, false, List, [], ◌∷◌, min, is_some, slice_get, Option, Some, None}
 use Rattle.flight_value.specs.declared.graph.Atom.TheVariants as atom
 use Rattle.flight_place.specs.declared.place.Place.{Place}
 use Rattle.flight_place.specs.declared.place.Place.TheVariants as place
 use Rattle.flight_place.specs.declared.place.PlacedRow.{PlacedRow}
-use Rattle.flight_place.specs.Meaning.{Token, map_token, set_token, slots_in, text_at}
+use Rattle.flight_place.specs.Meaning.{Token, slots_in, text_at}
 use Rattle.flight_place.specs.Resolve.{property}
 use Rattle.flight_row.specs.declared.row.RowKind.{RowKind}
 use Rattle.flight_row.specs.declared.row.RowKind.TheVariants as kind

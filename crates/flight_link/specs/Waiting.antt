@@ -1,14 +1,14 @@
 -- Walks that have not ended.
-use Rattle.std.specs.Prelude.{ℕ, ◌+◌, ◌<◌, ◌≡◌, Bool, true, false, List, [], ◌∷◌, length, slice_get, Option, Some, None}
+use Rattle.std.specs.Prelude.{ℕ, ◌≡◌, false, List, [], Option, Some, None}
 use Rattle.flight_place.specs.declared.place.PlacedRow.{PlacedRow}
 use Rattle.flight_place.specs.Linked.{rows_of}
-use Rattle.flight_place.specs.Resolve.{Path, Stand, to, Found, found, stream, not_yet, nowhere, Ends, Endless}
+use Rattle.flight_place.specs.Resolve.{Path, Stand, to, Found, found, not_yet, nowhere, Ends, Endless}
 use Rattle.flight_link.specs.declared.node.Start.{Start}
 use Rattle.flight_link.specs.declared.node.Start.TheVariants.{Id, Place as AtPlace}
 use Rattle.flight_link.specs.declared.node.State.{State}
 use Rattle.flight_link.specs.declared.node.State.TheVariants.{Absent, Ended, Lost, Behind}
 use Rattle.flight_link.specs.declared.table.Table.{Table}
-use Rattle.flight_link.specs.Nodes.{IsNodeAt, HasNode, IsStop, ComesBehind, with_path, stand, spot_of, has_ended}
+use Rattle.flight_link.specs.Nodes.{IsNodeAt, IsStop, ComesBehind, with_path, stand, spot_of, has_ended}
 
 -- a walk that ends for want of a row
 abbrev pub IsNotYet : Found → Type 0

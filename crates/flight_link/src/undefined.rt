@@ -188,7 +188,10 @@ impl Table {
         ensures { result ≡ text_in self.now.rows.items row number }
     {
         match number {
-            Some(place) => matches!(self.place(Spot { row, place }), Some(Place::Atom(Atom::Text(_)))),
+            Some(place) => matches!(
+                self.place(Spot { row, place }),
+                Some(Place::Atom(Atom::Text(_)))
+            ),
             None => false,
         }
     }
@@ -197,7 +200,10 @@ impl Table {
         ensures { result ≡ bound_in self.now.rows.items row number }
     {
         match number {
-            Some(place) => matches!(self.place(Spot { row, place }), Some(Place::Atom(Atom::Null) | Place::Promise(_))),
+            Some(place) => matches!(
+                self.place(Spot { row, place }),
+                Some(Place::Atom(Atom::Null) | Place::Promise(_))
+            ),
             None => false,
         }
     }

@@ -1,4 +1,4 @@
-use Rattle.std.proofs.Common.{subst, sym}
+use Rattle.std.proofs.Common.{subst}
 use Rattle.flight_place.specs.Linked.{FollowOn}
 use Rattle.flight_link.proofs.links.Links.follow_on.Goals as goal
 

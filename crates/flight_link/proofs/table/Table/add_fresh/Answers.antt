@@ -1,7 +1,6 @@
-use Rattle.std.proofs.Common.{◌≡◌, ◌+◌, ◌∙◌, sym, ap, refl, Some, None, List, ◌++◌, ◌∷◌, [], length, rules, arith, nat_eq, subst}
-use Rattle.std.specs.Prelude.{option_copied, option_map}
+use Rattle.std.proofs.Common.{◌≡◌, ◌+◌, ◌∙◌, sym, ap, refl, Some, None, ◌++◌, ◌∷◌, [], length, rules, subst}
 use Rattle.flight_link.specs.declared.fresh.Fresh.{Fresh}
-use Rattle.flight_link.specs.declared.node.Start.TheVariants.{Id, Place as AtPlace}
+use Rattle.flight_link.specs.declared.node.Start.TheVariants.{Place as AtPlace}
 use Rattle.flight_link.specs.Nodes.{followed, IsKnown}
 use Rattle.flight_link.proofs.Growing.{fresh_none, fresh_some}
 use Rattle.flight_link.proofs.table.Table.add_fresh.Goals as goal

@@ -1,8 +1,6 @@
-use Rattle.std.proofs.Common.{◌≡◌, ◌∷◌, [], ◌∙◌, sym, ap, refl, subst, Some, List, rules}
-use Rattle.std.specs.Prelude.{slice_get}
-use Rattle.flight_link.specs.declared.node.State.TheVariants.{Absent, Ended, Lost, Behind}
-use Rattle.flight_link.specs.Nodes.{last_names}
-use Rattle.flight_link.proofs.Advancing.{IsBehind, behind_begins, behind_within, sound_at, behind_goes, behind_ends, behind_absent, behind_lost, behind_waits, waits_quiet, waits_fewer}
+use Rattle.std.proofs.Common.{sym, subst}
+use Rattle.flight_link.specs.declared.node.State.TheVariants.{Ended, Lost}
+use Rattle.flight_link.proofs.Advancing.{IsBehind, behind_begins, behind_within, sound_at, behind_goes, behind_ends, behind_absent, behind_lost, behind_waits}
 use Rattle.flight_link.proofs.table.Table.advance.Goals as goal
 
 pub walks-init : goal.walks-init

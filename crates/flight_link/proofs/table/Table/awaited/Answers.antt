@@ -1,4 +1,4 @@
-use Rattle.std.proofs.Common.{◌≡◌, ◌+◌, ◌≤◌, ◌<◌, suc, length, subst, sym, ◌∙◌, arith, rules}
+use Rattle.std.proofs.Common.{◌≡◌, ◌+◌, suc, length, subst, arith, rules}
 use Rattle.flight_link.specs.Nodes.{IsNodeAt}
 use Rattle.flight_link.proofs.Waits.{IsChain, chain_begins, chain_within, chain_goes, chain_absent, chain_whole}
 use Rattle.flight_link.proofs.table.Table.awaited.Goals as goal
@@ -17,7 +17,7 @@ start_at-requires c =
 pub returns-in-Absent : goal.returns-in-Absent
 returns-in-Absent c =
     chain_absent c.args.self.now c.args.states.now c.args.node c.chain.behind c.chain.counter c.start_at.result c.id_of.result c.requires.linked c.chain.invariant c.in-Absent.ensures
-      (subst (λ x. IsNodeAt x c.chain.behind c.start_at.result) c.as_slice.ensures.value c.start_at.ensures) c.id_of.ensures
+    (subst (λ x. IsNodeAt x c.chain.behind c.start_at.result) c.as_slice.ensures.value c.start_at.ensures) c.id_of.ensures
 
 pub chain-preserved : goal.chain-preserved
 chain-preserved c =

@@ -1,4 +1,3 @@
-use Rattle.std.proofs.Common.{false}
 use Rattle.std.proofs.lemmas.Bool.{false≢true}
 use Rattle.flight_link.proofs.Defined.{other_never}
 use Rattle.flight_link.proofs.table.Table.comes_to_an_end.Goals as goal

@@ -1,6 +1,6 @@
-use Rattle.std.proofs.Common.{◌≡◌, ◌∷◌, [], ◌∙◌, sym, ap, refl, length, rules}
+use Rattle.std.proofs.Common.{◌≡◌, ◌∷◌, length, rules}
 use Rattle.std.proofs.lemmas.List.{nil_from_length}
-use Rattle.flight_link.proofs.Advancing.{way_begins, way_goes, way_ends, way_stops, way_leaves, way_meets, way_fewer, way_at}
+use Rattle.flight_link.proofs.Advancing.{way_goes, way_ends, way_stops, way_leaves, way_meets, way_at}
 use Rattle.flight_link.proofs.table.Table.descend.Goals as goal
 
 pub returns-in-Stops-clause-leads : goal.returns-in-Stops-clause-leads

@@ -1,4 +1,4 @@
-use Rattle.std.proofs.Common.{subst, sym, ap, ◌∙◌, Some}
+use Rattle.std.proofs.Common.{subst, sym}
 use Rattle.flight_link.specs.Nodes.{IsKnown, IsRowOf}
 use Rattle.flight_link.proofs.Defined.{has_one}
 use Rattle.flight_link.proofs.table.Table.has_reference.Goals as goal

@@ -1,4 +1,4 @@
-use Rattle.std.proofs.Common.{◌≡◌, ◌∙◌, sym, ap, subst, Some}
+use Rattle.std.proofs.Common.{◌∙◌, sym, subst}
 use Rattle.flight_link.specs.Nodes.{IsKnown}
 use Rattle.flight_link.proofs.Standing.{row_known}
 use Rattle.flight_link.proofs.table.Table.has_row.Goals as goal

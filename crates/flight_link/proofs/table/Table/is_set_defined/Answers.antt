@@ -1,4 +1,4 @@
-use Rattle.std.proofs.Common.{false, subst, sym, ◌∙◌}
+use Rattle.std.proofs.Common.{subst, sym, ◌∙◌}
 use Rattle.std.proofs.lemmas.Bool.{false≢true}
 use Rattle.flight_place.specs.Meaning.{set_token}
 use Rattle.flight_link.specs.declared.node.State.TheVariants.{Ended}

@@ -1,6 +1,4 @@
-use Rattle.std.proofs.Common.{◌≡◌, ◌<◌, ◌≤◌, ◌∙◌, sym, ap, refl, subst, Some, length, slice_get, arith}
-use Rattle.flight_link.specs.declared.node.Start.{Start}
-use Rattle.flight_link.specs.Nodes.{last_names, names_of, HasNode}
+use Rattle.std.proofs.Common.{◌≤◌, sym, subst, length}
 use Rattle.flight_link.proofs.Settling.{loose_within, loose_start, loose_few, loose_behind, moves}
 use Rattle.flight_link.proofs.table.Table.moved.Goals as goal
 

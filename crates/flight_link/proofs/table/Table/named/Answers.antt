@@ -1,4 +1,4 @@
-use Rattle.std.proofs.Common.{◌≡◌, ◌∙◌, sym, ap, refl, Some, None, List, ◌++◌, ◌∷◌, [], length, rules, arith, nat_eq, slice_get}
+use Rattle.std.proofs.Common.{◌≡◌, ◌∙◌, sym, ap, refl, None, List, ◌++◌, ◌∷◌, [], length, rules, nat_eq, slice_get}
 use Rattle.std.specs.Prelude.{option_copied}
 use Rattle.std.specs.HashMap.{get}
 use Rattle.flight_link.specs.declared.table.Known.{Known}

@@ -1,7 +1,6 @@
-use Rattle.std.proofs.Common.{◌≡◌, ◌∙◌, sym, ap, ap₂, refl, Some, None, List, Option, ℕ, ◌++◌, ◌∷◌, [], length, slice_set, rules, arith, nat_eq, subst, cond}
+use Rattle.std.proofs.Common.{◌≡◌, ◌∙◌, ap, Some, List, Option, ℕ, ◌++◌, ◌∷◌, [], length, slice_set, rules, nat_eq, cond}
 use Rattle.std.specs.HashMap.{get}
 use Rattle.flight_place.specs.declared.place.PlacedRow.{PlacedRow}
-use Rattle.flight_link.specs.declared.table.Known.{Known}
 use Rattle.flight_link.specs.declared.table.Table.{Table}
 use Rattle.flight_link.specs.declared.node.Start.{Start}
 use Rattle.flight_link.specs.declared.node.State.{State}
@@ -32,7 +31,7 @@ returns-clause-states c =
       updates = λ q. c.in_ok-insert.ensures.updates.0 q ∙ ap (λ n. cond (nat_eq c.args.row.id q) (Some (record { node = c.args.node; row = Some n })) (get nat_eq c.args.self.now.known q)) number;
     } in
     states_added c.args.self.now u c.args.row c.args.fresh c.args.node c.args.states.now.items c.put_state.new.states.items c.requires.table c.requires.may has c.requires.states
-      (c.put_state.ensures
-      ∙ (ap (λ (x : List State). slice_set x c.args.node c.root_state-root.result) (c.append_last-2.ensures ∙ ap (λ (x : List State). x ++ c.args.fresh.states.items) c.reserve-4.ensures.items)
-      ∙ ap (λ x. slice_set (c.args.states.now.items ++ c.args.fresh.states.items) c.args.node x)
-          (c.root_state-root.ensures ∙ (ap (λ x. root_of x c.in-Ok.number) c.as_slice.ensures.value ∙ ap (root_of c.args.fresh.index.items) number))))
+    (c.put_state.ensures
+    ∙ (ap (λ (x : List State). slice_set x c.args.node c.root_state-root.result) (c.append_last-2.ensures ∙ ap (λ (x : List State). x ++ c.args.fresh.states.items) c.reserve-4.ensures.items)
+    ∙ ap (λ x. slice_set (c.args.states.now.items ++ c.args.fresh.states.items) c.args.node x)
+    (c.root_state-root.ensures ∙ (ap (λ x. root_of x c.in-Ok.number) c.as_slice.ensures.value ∙ ap (root_of c.args.fresh.index.items) number))))

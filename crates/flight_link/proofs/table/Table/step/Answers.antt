@@ -1,7 +1,5 @@
-use Rattle.std.proofs.Common.{◌≡◌, ◌∙◌, sym, ap, refl, Some, None}
-use Rattle.flight_place.specs.Resolve.{step}
+use Rattle.std.proofs.Common.{◌∙◌, sym, refl}
 use Rattle.flight_link.specs.declared.found.Spot.{Spot}
-use Rattle.flight_link.specs.Nodes.{place_in, fails}
 use Rattle.flight_link.proofs.Stepping.{step_stops, step_leaves, step_to, step_meets}
 use Rattle.flight_link.proofs.table.Table.step.Goals as goal
 

@@ -1,4 +1,4 @@
-use Rattle.std.proofs.Common.{ℕ, ◌≡◌, ◌≤◌, ◌<◌, ◌+◌, ◌∙◌, sym, ap, subst, List, ◌++◌, ◌∷◌, [], length, take, arith}
+use Rattle.std.proofs.Common.{◌≡◌, ◌≤◌, ◌<◌, ◌+◌, ◌∙◌, sym, ap, subst, List, ◌++◌, ◌∷◌, [], length, take, arith}
 use Rattle.std.proofs.lemmas.List.{take_all, take_more}
 use Rattle.flight_place.specs.declared.place.Place.{Place}
 use Rattle.flight_place.specs.declared.place.PlacedRow.{PlacedRow}
@@ -16,10 +16,10 @@ pub rows-preserved : goal.rows-preserved
 rows-preserved c =
     let less : c.rows.row-index < length c.as_slice-row-items.result.now = c.rows-test.true in
     let more : take (c.rows.row-index + 1) c.args.self.now.rows.items ≡ take c.rows.row-index c.args.self.now.rows.items ++ c.row-item.result ∷ [] =
-        ap (take (c.rows.row-index + 1)) (sym c.as_slice-row-items.ensures.value)
-        ∙ (take_more c.as_slice-row-items.result.now c.rows.row-index c.row-item.result less
-        ∙ (ap (λ y. take c.rows.row-index c.as_slice-row-items.result.now ++ y ∷ []) (sym c.row-item.is)
-        ∙ ap (λ (xs : List PlacedRow). take c.rows.row-index xs ++ c.row-item.result ∷ []) c.as_slice-row-items.ensures.value)) in
+    ap (take (c.rows.row-index + 1)) (sym c.as_slice-row-items.ensures.value)
+    ∙ (take_more c.as_slice-row-items.result.now c.rows.row-index c.row-item.result less
+    ∙ (ap (λ y. take c.rows.row-index c.as_slice-row-items.result.now ++ y ∷ []) (sym c.row-item.is)
+    ∙ ap (λ (xs : List PlacedRow). take c.rows.row-index xs ++ c.row-item.result ∷ []) c.as_slice-row-items.ensures.value)) in
     let last = subst (λ (xs : List Place). IsLeastIn c.args.self.now.rows.items (IsIn xs) c.undefined_in.result) c.as_slice.ensures c.undefined_in.ensures in
     subst (λ (xs : List PlacedRow). IsLeastIn c.args.self.now.rows.items (IsInRows xs) c.lesser-least.result) (sym more)
     (subst (IsLeastIn c.args.self.now.rows.items (IsInRows (take c.rows.row-index c.args.self.now.rows.items ++ c.row-item.result ∷ []))) (sym c.lesser-least.ensures)
