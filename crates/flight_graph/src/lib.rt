@@ -18,6 +18,7 @@
 #![tactic(auto)]
 
 mod escape;
+mod label;
 mod law;
 mod print;
 mod rename;
@@ -28,6 +29,7 @@ mod valid;
 mod walk;
 
 pub use escape::write_string;
+pub use label::{Kind, Label};
 pub use law::{canon_is_valid, same_by_pairs};
 pub use print::canon_text;
 pub use rename::canon;

@@ -12,3 +12,4 @@ pub mod PairsStay
 mod Worked
 pub mod Settled
 pub mod Undefined
+pub mod Rooted

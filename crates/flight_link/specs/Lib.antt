@@ -1,0 +1,9 @@
+pub mod Spots
+pub mod Adding
+pub mod Finding
+pub mod Looking
+pub mod Origins
+pub mod Nodes
+pub mod Growth
+pub mod Waiting
+pub mod Least
