@@ -29,25 +29,15 @@ use Rattle.flight_place.specs.declared.place.PlaceTree.{PlaceTree}
 use Rattle.flight_place.specs.declared.fault.PlaceKind.TheVariants.{BadModel, Number, BadElement}
 use Rattle.flight_place.specs.Tokens.{place_of}
 use Rattle.flight_place.specs.Places.{Visit, placed, token, faulty, whole_of, number_visit, is_marked, is_element, element_of, mark_visit, count, item_numbers, member_numbers, visits, element_visits, item_visits, member_visits, HasPlace, HavePlaces}
+use Rattle.flight_place.specs.Parsed.{names, Below, OrderedMembers}
 use Rattle.flight_place.specs.Rows.{model_visits, digest_of, has_whole_numbers, import_visit, failed_visit, row_visits, IsTree}
 use Rattle.flight_place.specs.Parts.{HasOrder}
 
 -- ---- members in order
 
-abbrev names : Members → List (List ℕ)
-names no_members = []
-names (member name d ms) = name ∷ names ms
-
-abbrev Below : List ℕ → List (List ℕ) → Type 0
-Below k ks = AllByRecursion (λ y. slice_cmp nat_cmp k y ≡ Less) ks
-
 below-trans : (k l : List ℕ) (ks : List (List ℕ)) → slice_cmp nat_cmp k l ≡ Less → Below l ks → Below k ks
 below-trans k l [] e h = tt
 below-trans k l (x ∷ ks) e h = (nat_list_cmp_total.trans k l x e h.0, below-trans k l ks e h.1)
-
-abbrev OrderedMembers : Members → Type 0
-OrderedMembers no_members = Unit {0}
-OrderedMembers (member name d ms) = Below name (names ms) × OrderedMembers ms
 
 below-put_at : (o : Ordering) (l k m : List ℕ) (d e : Data) (ms : Members) → slice_cmp nat_cmp l k ≡ Less → Below l (m ∷ names ms) → Below l (names (put k d ms))
     → Below l (names (match_ordering o (member k d (member m e ms)) (member m d ms) (member m e (put k d ms))))
@@ -67,7 +57,7 @@ put-ordered_at Greater k m d e ms is h r =
     let less : slice_cmp nat_cmp m k ≡ Less = nat_list_cmp_total.antisymm m k ∙ ap ordering_reverse is in
     (below-put m k d ms less h.0, r)
 
-put-ordered : (k : List ℕ) (d : Data) (ms : Members) → OrderedMembers ms → OrderedMembers (put k d ms)
+pub put-ordered : (k : List ℕ) (d : Data) (ms : Members) → OrderedMembers ms → OrderedMembers (put k d ms)
 put-ordered k d no_members h = (tt, tt)
 put-ordered k d (member m e ms) h = put-ordered_at (slice_cmp nat_cmp k m) k m d e ms refl h (put-ordered k d ms h.1)
 

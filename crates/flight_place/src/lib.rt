@@ -10,8 +10,12 @@
 #![tactic(auto)]
 
 mod fault;
+mod gathered;
 mod law;
+mod number;
+mod parsed;
 mod place;
+mod reading;
 #[cfg(test)]
 mod tests;
 mod token;
