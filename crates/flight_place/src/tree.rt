@@ -7,10 +7,12 @@ ghost use Rattle.flight_place.specs.Rows.{model_visits, import_visit, digest_of,
 
 use crate::fault::{PlaceFault, PlaceKind};
 use crate::place::{Manner, Place, PlaceTree};
+use crate::reading::parse;
 use crate::walk::walk;
 use crate::whole::has_whole_numbers;
 use flight_row::{Row, RowKind};
 use flight_value::{Atom, List, Text};
+use json::Scratch;
 use serde_json::Value;
 use std::alloc::Global;
 use std::str;
@@ -88,7 +90,8 @@ fn model_places(alloc: Global, manner: Manner, payload: &str) -> Result<Vec<Plac
     ensures ok { IfOk result (λ places. HavePlaces manner (model_visits manner (read payload.now)) places.items) }
     ensures err { IfErr result (Refuses manner (model_visits manner (read payload.now))) }
 {
-    let value = parsed(alloc, payload)?;
+    let mut scratch = Scratch::new(alloc);
+    let value = parse(alloc, payload, &mut scratch)?;
     let mut out = Vec::new(alloc);
     walk(alloc, manner, &value, &mut out)?;
     Ok(out)
