@@ -6,3 +6,4 @@ pub mod Ordered
 pub mod Parsing
 pub mod Gathering
 pub mod Turns
+pub mod OneByOne

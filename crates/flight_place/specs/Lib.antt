@@ -8,3 +8,4 @@ pub mod Resolve
 pub mod Meaning
 pub mod Good
 pub mod Parsed
+pub mod Placing

@@ -15,6 +15,7 @@ mod law;
 mod number;
 mod parsed;
 mod place;
+mod placing;
 mod reading;
 #[cfg(test)]
 mod tests;

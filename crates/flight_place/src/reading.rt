@@ -1,5 +1,6 @@
-ghost use Rattle.std.specs.Prelude.{◌≡◌, ◌<◌, length, Some, None, Err, IfOk, IfErr, OnOk};
+ghost use Rattle.std.specs.Prelude.{◌≡◌, ◌∷◌, ◌<◌, length, Some, None, Err, IfOk, IfErr, OnOk};
 ghost use Rattle.json.specs.Json.{value, items, members};
+ghost use Rattle.json.specs.Reads.{token_of};
 ghost use Rattle.serde_json.specs.Data.{no_members};
 ghost use Rattle.serde_json.specs.Read.{of_json, of_items, of_members, converted, read};
 ghost use Rattle.flight_place.specs.Parsed.{data_of, items_data, members_data};
@@ -13,11 +14,11 @@ use json::{Invalid, Reader, Scratch, Token};
 use std::alloc::{AllocError, AllocFailed, Global};
 
 /// Arrays and objects nest so deep at most.
-const LEVELS: usize = 127;
+pub const LEVELS: usize = 127;
 
 /// Why there is no value.
 #[derive(Drop)]
-enum Unread {
+pub enum Unread {
     NoJson,
     Memory,
 }
@@ -89,6 +90,21 @@ fn read_value<'a>(
     ensures err { result ≡ Err Unread.NoJson → converted of_json (value levels reader.old) ≡ None }
 {
     let token = reader.next().ok_or(Unread::NoJson)?;
+    read_from(alloc, token, reader, levels)
+}
+
+/// The value that a token begins.
+#[cycle(read)]
+pub fn read_from<'a>(
+    alloc: Global,
+    token: Token<'a>,
+    reader: &mut Reader<'a>,
+    levels: usize,
+) -> Result<Parsed<'a>, Unread>
+    ensures ok { IfOk result (λ p. converted of_json (value levels (token_of token.entry ∷ reader.old)) ≡ Some (data_of p, reader.new)) }
+    ensures shorter { OnOk result (length reader.new < length (token_of token.entry ∷ reader.old)) }
+    ensures err { result ≡ Err Unread.NoJson → converted of_json (value levels (token_of token.entry ∷ reader.old)) ≡ None }
+{
     match token {
         Token::Null => Ok(Parsed::Null),
         Token::Bool(b) => Ok(Parsed::Bool(b)),
@@ -115,7 +131,7 @@ fn read_value<'a>(
 
 /// The items of an array that has begun.
 #[cycle(read)]
-fn read_items<'a>(
+pub fn read_items<'a>(
     alloc: Global,
     reader: &mut Reader<'a>,
     levels: usize,

@@ -197,14 +197,14 @@ fn next_number(out: &[Place]) -> Result<u32, PlaceFault>
 }
 
 /// A place that stands for one whose parts are not known yet.
-fn unfinished(alloc: Global) -> Place
+pub fn unfinished(alloc: Global) -> Place
     ensures { result ≡ Place.Array [] }
 {
     Place::Array(List::new(Vec::new(alloc)))
 }
 
 /// Adds a place, and gives its number.
-fn push(out: &mut Vec<Place>, place: Place) -> Result<u32, PlaceFault>
+pub fn push(out: &mut Vec<Place>, place: Place) -> Result<u32, PlaceFault>
     ensures number { IfOk result (λ n. n ≡ length out.old.items) }
     ensures ok { OnOk result (out.new.items ≡ out.old.items ++ place ∷ []) }
     ensures err { IfErr result (λ e. e ≡ PlaceFault.Memory) }
@@ -250,7 +250,7 @@ fn push_mark(alloc: Global, manner: Manner, out: &mut Vec<Place>) -> Result<(), 
 }
 
 /// Puts a place where one stands.
-fn put(out: &mut Vec<Place>, at: usize, place: Place)
+pub fn put(out: &mut Vec<Place>, at: usize, place: Place)
     requires { at < length out.old.items }
     ensures { out.new.items ≡ slice_set out.old.items at place }
 {

@@ -18,81 +18,81 @@ read_value-returns-in_err-token-clause-err t c refused =
     let empty : c.args.reader.now ≡ [] = grind arith in
     ap (converted of_json) (ap (value c.args.levels) empty ∙ value_is c.args.levels [])
 
-pub read_value-returns-then-levels-eq0-clause-err : goal.read_value-returns-then-levels-eq0-clause-err
-read_value-returns-then-levels-eq0-clause-err t c refused =
-    let first : c.args.reader.now ≡ token_of c.in_ok-token.token ∷ c.next.new.self = grind arith in
-    too-deep c.args.levels c.args.reader.now c.next.new.self (token_of c.in_ok-token.token) (inl (ap token_of c.in-BeginArray.is)) first (omega arith)
+pub read_from-returns-then-levels-eq0-clause-err : goal.read_from-returns-then-levels-eq0-clause-err
+read_from-returns-then-levels-eq0-clause-err t c refused =
+    too-deep c.args.levels (token_of c.args.token ∷ c.args.reader.now) c.args.reader.now (token_of c.args.token) (inl (ap token_of c.in-BeginArray.is)) refl (omega arith)
 
-pub read_value-returns-then-levels-eq0-2-clause-err : goal.read_value-returns-then-levels-eq0-2-clause-err
-read_value-returns-then-levels-eq0-2-clause-err t c refused =
-    let first : c.args.reader.now ≡ token_of c.in_ok-token.token ∷ c.next.new.self = grind arith in
-    too-deep c.args.levels c.args.reader.now c.next.new.self (token_of c.in_ok-token.token) (inr (ap token_of c.in-BeginObject.is)) first (omega arith)
 
-pub read_value-returns-in_err-read_items-in-BeginArray-clause-err : goal.read_value-returns-in_err-read_items-in-BeginArray-clause-err
-read_value-returns-in_err-read_items-in-BeginArray-clause-err t c refused =
-    let first : c.args.reader.now ≡ token_of c.in_ok-token.token ∷ c.next.new.self = grind arith in
-    let opened = an-array c.args.levels c.args.reader.now c.next.new.self (first ∙ ap (λ k. token_of k ∷ c.next.new.self) c.in-BeginArray.is) (omega arith) in
+pub read_from-returns-then-levels-eq0-2-clause-err : goal.read_from-returns-then-levels-eq0-2-clause-err
+read_from-returns-then-levels-eq0-2-clause-err t c refused =
+    too-deep c.args.levels (token_of c.args.token ∷ c.args.reader.now) c.args.reader.now (token_of c.args.token) (inr (ap token_of c.in-BeginObject.is)) refl (omega arith)
+
+
+pub read_from-returns-in_err-read_items-in-BeginArray-clause-err : goal.read_from-returns-in_err-read_items-in-BeginArray-clause-err
+read_from-returns-in_err-read_items-in-BeginArray-clause-err t c refused =
+    let opened = an-array c.args.levels (token_of c.args.token ∷ c.args.reader.now) c.args.reader.now (ap (λ k. token_of k ∷ c.args.reader.now) c.in-BeginArray.is) (omega arith) in
     opened ∙ ap (parse_map array) (c.read_items.ensures.err (grind arith))
 
-pub read_value-returns-in_err-read_members-in-BeginObject-clause-err : goal.read_value-returns-in_err-read_members-in-BeginObject-clause-err
-read_value-returns-in_err-read_members-in-BeginObject-clause-err t c refused =
-    let first : c.args.reader.now ≡ token_of c.in_ok-token.token ∷ c.next.new.self = grind arith in
-    let opened = an-object c.args.levels c.args.reader.now c.next.new.self (first ∙ ap (λ k. token_of k ∷ c.next.new.self) c.in-BeginObject.is) (omega arith) in
+
+pub read_from-returns-in_err-read_members-in-BeginObject-clause-err : goal.read_from-returns-in_err-read_members-in-BeginObject-clause-err
+read_from-returns-in_err-read_members-in-BeginObject-clause-err t c refused =
+    let opened = an-object c.args.levels (token_of c.args.token ∷ c.args.reader.now) c.args.reader.now (ap (λ k. token_of k ∷ c.args.reader.now) c.in-BeginObject.is) (omega arith) in
     opened ∙ ap (parse_map object) (c.read_members.ensures.err (grind arith))
 
-pub read_value-returns-in-String-clause-ok : goal.read_value-returns-in-String-clause-ok
-read_value-returns-in-String-clause-ok t c =
-    let first : c.args.reader.now ≡ token_of c.in_ok-token.token ∷ c.next.new.self = grind arith in
-    let is : c.args.reader.now ≡ Token.string c.in-String.text.now ∷ c.next.new.self = grind (arith, first) in
+
+pub read_from-returns-in-String-clause-ok : goal.read_from-returns-in-String-clause-ok
+read_from-returns-in-String-clause-ok t c =
+    let is : token_of c.args.token ≡ Token.string c.in-String.text.now = ap token_of c.in-String.is in
     let seen : data_of (String c.in-String.text) ≡ string c.in-String.text.now = search (rules, the_lemmas) in
-    ap (converted of_json) (ap (value c.args.levels) is ∙ value_is c.args.levels _) ∙ ap (λ d. Some (d, c.next.new.self)) (sym seen)
+    ap (converted of_json) (ap (λ k. value c.args.levels (k ∷ c.args.reader.now)) is ∙ value_is c.args.levels _) ∙ ap (λ d. Some (d, c.args.reader.now)) (sym seen)
 
-pub read_value-returns-in-Bool-clause-ok : goal.read_value-returns-in-Bool-clause-ok
-read_value-returns-in-Bool-clause-ok t c =
-    let first : c.args.reader.now ≡ token_of c.in_ok-token.token ∷ c.next.new.self = grind arith in
-    let is : c.args.reader.now ≡ Token.boolean c.in-Bool.b ∷ c.next.new.self = grind (arith, first) in
+
+pub read_from-returns-in-Bool-clause-ok : goal.read_from-returns-in-Bool-clause-ok
+read_from-returns-in-Bool-clause-ok t c =
+    let is : token_of c.args.token ≡ Token.boolean c.in-Bool.b = ap token_of c.in-Bool.is in
     let seen : data_of (Bool c.in-Bool.b) ≡ boolean c.in-Bool.b = search (rules, the_lemmas) in
-    ap (converted of_json) (ap (value c.args.levels) is ∙ value_is c.args.levels _) ∙ ap (λ d. Some (d, c.next.new.self)) (sym seen)
+    ap (converted of_json) (ap (λ k. value c.args.levels (k ∷ c.args.reader.now)) is ∙ value_is c.args.levels _) ∙ ap (λ d. Some (d, c.args.reader.now)) (sym seen)
 
-pub read_value-returns-in-Null-clause-ok : goal.read_value-returns-in-Null-clause-ok
-read_value-returns-in-Null-clause-ok t c =
-    let first : c.args.reader.now ≡ token_of c.in_ok-token.token ∷ c.next.new.self = grind arith in
-    let is : c.args.reader.now ≡ Token.null ∷ c.next.new.self = grind (arith, first) in
-    let seen : data_of Null ≡ null = search (rules, the_lemmas) in
-    ap (converted of_json) (ap (value c.args.levels) is ∙ value_is c.args.levels _) ∙ ap (λ d. Some (d, c.next.new.self)) (sym seen)
 
-pub read_value-returns-in-Some-clause-ok : goal.read_value-returns-in-Some-clause-ok
-read_value-returns-in-Some-clause-ok t c =
-    let first : c.args.reader.now ≡ token_of c.in_ok-token.token ∷ c.next.new.self = grind arith in
-    let is : c.args.reader.now ≡ Token.number c.in-Number.text.now ∷ c.next.new.self = grind (arith, first) in
+pub read_from-returns-in-Null-clause-ok : goal.read_from-returns-in-Null-clause-ok
+read_from-returns-in-Null-clause-ok t c =
+    let is : token_of c.args.token ≡ Token.null = ap token_of c.in-Null.is in
+    let seen : data_of (Null) ≡ null = search (rules, the_lemmas) in
+    ap (converted of_json) (ap (λ k. value c.args.levels (k ∷ c.args.reader.now)) is ∙ value_is c.args.levels _) ∙ ap (λ d. Some (d, c.args.reader.now)) (sym seen)
+
+
+pub read_from-returns-in-Some-clause-ok : goal.read_from-returns-in-Some-clause-ok
+read_from-returns-in-Some-clause-ok t c =
+    let is : token_of c.args.token ≡ Token.number c.in-Number.text.now = ap token_of c.in-Number.is in
     let seen : data_of (Number c.in-Some.number) ≡ number (number_view c.in-Some.number) = search (rules, the_lemmas) in
-    ap (converted of_json) (ap (value c.args.levels) is ∙ value_is c.args.levels _) ∙ rw (← c.in-Some.ensures, seen)
+    ap (converted of_json) (ap (λ k. value c.args.levels (k ∷ c.args.reader.now)) is ∙ value_is c.args.levels _) ∙ rw (← c.in-Some.ensures, seen)
 
-pub read_value-returns-in-None-clause-err : goal.read_value-returns-in-None-clause-err
-read_value-returns-in-None-clause-err t c refused =
-    let first : c.args.reader.now ≡ token_of c.in_ok-token.token ∷ c.next.new.self = grind arith in
-    let is : c.args.reader.now ≡ Token.number c.in-Number.text.now ∷ c.next.new.self = grind (arith, first) in
-    ap (converted of_json) (ap (value c.args.levels) is ∙ value_is c.args.levels _) ∙ rw (← c.in-None.ensures)
 
-pub read_value-returns-in-EndObject-clause-err : goal.read_value-returns-in-EndObject-clause-err
-read_value-returns-in-EndObject-clause-err t c refused =
-    let first : c.args.reader.now ≡ token_of c.in_ok-token.token ∷ c.next.new.self = grind arith in
-    let none : value c.args.levels c.args.reader.now ≡ None = rw (value_is c.args.levels c.args.reader.now, first) (grind arith) in
+pub read_from-returns-in-None-clause-err : goal.read_from-returns-in-None-clause-err
+read_from-returns-in-None-clause-err t c refused =
+    let is : token_of c.args.token ≡ Token.number c.in-Number.text.now = ap token_of c.in-Number.is in
+    ap (converted of_json) (ap (λ k. value c.args.levels (k ∷ c.args.reader.now)) is ∙ value_is c.args.levels _) ∙ rw (← c.in-None.ensures)
+
+
+pub read_from-returns-in-EndObject-clause-err : goal.read_from-returns-in-EndObject-clause-err
+read_from-returns-in-EndObject-clause-err t c refused =
+    let none : value c.args.levels (token_of c.args.token ∷ c.args.reader.now) ≡ None = rw (value_is c.args.levels (token_of c.args.token ∷ c.args.reader.now)) (grind arith) in
     ap (converted of_json) none
 
-pub read_value-returns-in_ok-read_items-in-BeginArray-clause-ok : goal.read_value-returns-in_ok-read_items-in-BeginArray-clause-ok
-read_value-returns-in_ok-read_items-in-BeginArray-clause-ok t c =
-    let first : c.args.reader.now ≡ token_of c.in_ok-token.token ∷ c.next.new.self = grind arith in
-    let opened = an-array c.args.levels c.args.reader.now c.next.new.self (first ∙ ap (λ k. token_of k ∷ c.next.new.self) c.in-BeginArray.is) (omega arith) in
+
+pub read_from-returns-in_ok-read_items-in-BeginArray-clause-ok : goal.read_from-returns-in_ok-read_items-in-BeginArray-clause-ok
+read_from-returns-in_ok-read_items-in-BeginArray-clause-ok t c =
+    let opened = an-array c.args.levels (token_of c.args.token ∷ c.args.reader.now) c.args.reader.now (ap (λ k. token_of k ∷ c.args.reader.now) c.in-BeginArray.is) (omega arith) in
     let found = c.in_ok-read_items-in-BeginArray in
     opened ∙ (ap (parse_map array) found.ensures.ok ∙ ap (λ d. Some (d, c.read_items.new.reader)) (sym (data-Array found.field-0)))
 
-pub read_value-returns-in_ok-read_members-in-BeginObject-clause-ok : goal.read_value-returns-in_ok-read_members-in-BeginObject-clause-ok
-read_value-returns-in_ok-read_members-in-BeginObject-clause-ok t c =
-    let first : c.args.reader.now ≡ token_of c.in_ok-token.token ∷ c.next.new.self = grind arith in
-    let opened = an-object c.args.levels c.args.reader.now c.next.new.self (first ∙ ap (λ k. token_of k ∷ c.next.new.self) c.in-BeginObject.is) (omega arith) in
+
+pub read_from-returns-in_ok-read_members-in-BeginObject-clause-ok : goal.read_from-returns-in_ok-read_members-in-BeginObject-clause-ok
+read_from-returns-in_ok-read_members-in-BeginObject-clause-ok t c =
+    let opened = an-object c.args.levels (token_of c.args.token ∷ c.args.reader.now) c.args.reader.now (ap (λ k. token_of k ∷ c.args.reader.now) c.in-BeginObject.is) (omega arith) in
     let found = c.in_ok-read_members-in-BeginObject in
     opened ∙ (ap (parse_map object) found.ensures.ok ∙ ap (λ d. Some (d, c.read_members.new.reader)) (sym (data-Object found.field-0)))
+
 
 pub read_items-items-init : goal.read_items-items-init
 read_items-items-init t c =
