@@ -1,16 +1,15 @@
 -- Places of items that are read one by one.
-use Rattle.std.proofs.Common.{◌≡◌, ℕ, zero, suc, ◌+◌, ◌-◌, ◌<◌, ◌≤◌, List, [], ◌∷◌, ◌++◌, length, Option, Some, None, option_map, option_and_then, refl, sym, ap, subst, ◌∙◌, arith, append-nil, true, false, slice_set, length-append, length-set, Result, Ok, Err, IfErr}
+use Rattle.std.proofs.Common.{◌≡◌, ℕ, zero, suc, ◌+◌, ◌-◌, ◌<◌, List, [], ◌∷◌, ◌++◌, length, Option, Some, None, option_map, option_and_then, refl, sym, ap, subst, ◌∙◌, arith, append-nil, true, false, slice_set, length-append, length-set, Result, Ok, Err, IfErr}
 use Rattle.std.proofs.lemmas.Bool.{false≢true}
 use Rattle.json.specs.Token as token
 use Rattle.json.proofs.Grammar.{value_is}
 use Rattle.json.specs.Token.{Token}
 use Rattle.json.specs.Json as json
 use Rattle.json.specs.Json.{Parse, parse_map, after_end_array, items, value, value_with}
-use Rattle.serde_json.specs.Data.{Num, Data, null, boolean, number, string, array, object, Items, no_items, item, Members, no_members}
+use Rattle.serde_json.specs.Data.{Num, Data, number, string, array, object, Items, no_items, item, Members, no_members}
 use Rattle.serde_json.specs.Read.{of_json, of_items, of_members, number_of, converted}
 use Rattle.flight_place.specs.declared.place.Place.{Place}
 use Rattle.flight_place.specs.declared.place.Manner.{Manner}
-use Rattle.flight_place.specs.declared.fault.PlaceKind.{PlaceKind}
 use Rattle.flight_place.specs.declared.fault.PlaceFault.{PlaceFault}
 use Rattle.flight_place.specs.declared.fault.PlaceFault.TheVariants as fault
 use Rattle.flight_place.specs.declared.place.Place.TheVariants as place
@@ -24,7 +23,7 @@ use Rattle.flight_place.specs.Faults.{Refuses, Adds}
 use Rattle.flight_place.specs.Placing.{Brings, BringsItems, Stops, StopsAt, stop_at, stop_unread, is_mark_token, is_array_token}
 use Rattle.flight_place.proofs.Adding.{Leads, leads-start, leads-end, adds-parts, refuses-behind}
 use Rattle.flight_place.proofs.Walks.{items-on, items-refuse, parts-on}
-use Rattle.flight_place.proofs.Turns.{items-turn, items-no-data, items-over}
+use Rattle.flight_place.proofs.Turns.{items-turn, items-no-data}
 
 abbrev or : {A : Type 0} → A → Option A → A
 or a None = a

@@ -1,9 +1,9 @@
 -- Parsed values, level by level, and items behind those that were read.
-use Rattle.std.proofs.Common.{◌≡◌, ◌⊎◌, inl, inr, ◌<◌, ◌-◌, length, ap₂, ℕ, List, [], ◌∷◌, ◌++◌, Option, Some, None, Vec, Global, Bor, refl, sym, ap, ◌∙◌, rules}
+use Rattle.std.proofs.Common.{◌≡◌, ◌⊎◌, inl, inr, ◌<◌, ◌-◌, length, ap₂, ℕ, List, [], ◌∷◌, ◌++◌, Option, Some, None, Vec, Global, Bor, refl, ap, ◌∙◌, rules}
 use Rattle.json.specs.Token.{Token}
 use Rattle.json.specs.Json.{parse_map, value, items, members}
 use Rattle.json.proofs.Grammar.{value-begin_array, value-begin_object}
-use Rattle.serde_json.specs.Data.{Data, array, object, Items, no_items, item, no_members}
+use Rattle.serde_json.specs.Data.{array, object, Items, no_items, item, no_members}
 use Rattle.serde_json.specs.Read.{of_json, of_items, converted}
 use Rattle.flight_place.proofs.Turns.{onto, array-data, object-data}
 use Rattle.flight_place.specs.declared.parsed.Parsed.{Parsed, Array, Object, the_lemmas}

@@ -1,4 +1,4 @@
-use Rattle.std.proofs.Common.{◌≡◌, refl, sym, ap, subst, ◌∙◌}
+use Rattle.std.proofs.Common.{sym, ap, subst, ◌∙◌}
 use Rattle.flight_place.specs.Parsed.{members_data, EachBelow}
 use Rattle.flight_place.proofs.Gathering.{put-behind}
 use Rattle.flight_place.proofs.gathered.in_list.Goals as goal

@@ -1,4 +1,4 @@
-use Rattle.std.proofs.Common.{◌≡◌, ap, ◌∙◌}
+use Rattle.std.proofs.Common.{ap, ◌∙◌}
 use Rattle.flight_place.specs.Parsed.{members_data}
 use Rattle.flight_place.proofs.Gathering.{put-inserted_entry}
 use Rattle.flight_place.proofs.gathered.in_map.Goals as goal

@@ -1,4 +1,3 @@
-use Rattle.std.proofs.Common.{◌≡◌, ap, ◌∙◌}
 use Rattle.flight_place.proofs.Gathering.{set-with_value}
 use Rattle.flight_place.proofs.gathered.replace.Goals as goal
 

@@ -1,18 +1,16 @@
-use Rattle.std.proofs.Common.{◌≡◌, ◌+◌, ◌-◌, ◌<◌, ◌++◌, inl, ◌∷◌, [], length, Some, None, refl, sym, ap, subst, ◌∙◌, arith, true, false, IfErr}
-use Rattle.std.proofs.lemmas.Bool.{false_from_ne_true, false≢true}
+use Rattle.std.proofs.Common.{◌≡◌, ◌+◌, ◌-◌, ◌<◌, ◌++◌, inl, ◌∷◌, [], length, Some, None, refl, sym, ap, subst, ◌∙◌, arith, IfErr}
 use Rattle.std.proofs.lemmas.Result.{err_from_is_err_and, on_ok_weaker, IfErr-weaker}
-use Rattle.json.specs.Token.{Token, string}
-use Rattle.json.specs.Json.{parse_map, after_end_array, items, value}
+use Rattle.json.specs.Token.{string}
+use Rattle.json.specs.Json.{after_end_array, items, value}
 use Rattle.json.specs.Reads.{token_of}
 use Rattle.json.proofs.Grammar.{value_is}
 use Rattle.serde_json.specs.Data.{array}
 use Rattle.serde_json.specs.Read.{of_json, of_items, converted}
-use Rattle.flight_place.specs.Parsed.{data_of}
-use Rattle.flight_place.specs.Places.{visits, count, item_visits, item_count}
-use Rattle.flight_place.specs.Placing.{Brings, BringsItems, Stops, is_mark_token}
+use Rattle.flight_place.specs.Places.{visits}
+use Rattle.flight_place.specs.Placing.{BringsItems, Stops}
 use Rattle.flight_place.proofs.Parsing.{an-array, too-deep}
-use Rattle.flight_place.proofs.Turns.{items-turn, items-over, items-no-data}
-use Rattle.flight_place.proofs.OneByOne.{Awaits, awaits-start, awaits-on, awaits-end, awaits-stops, stops-at, stops-unread, brings-array, stops-array, is-mark, is-array, unmarked-brings, unmarked-stops, empty-brings, any-stop, nothing-left, from-first}
+use Rattle.flight_place.proofs.Turns.{items-turn, items-over}
+use Rattle.flight_place.proofs.OneByOne.{awaits-start, awaits-on, awaits-end, awaits-stops, brings-array, stops-array, is-mark, is-array, unmarked-brings, unmarked-stops, empty-brings, any-stop, nothing-left, from-first}
 use Rattle.flight_place.proofs.placing.+place.Goals as goal
 
 pub place-returns-then-is_array-clause-brings : goal.place-returns-then-is_array-clause-brings

@@ -1,4 +1,4 @@
-use Rattle.std.proofs.Common.{◌≡◌, ℕ, ◌+◌, ◌*◌, ◌≤◌, ◌<◌, ◌∷◌, length}
+use Rattle.std.proofs.Common.{ℕ, ◌+◌, ◌*◌, ◌≤◌, ◌<◌, ◌∷◌, length}
 use Rattle.json.specs.Json.{items, value}
 use Rattle.json.specs.Reads.{token_of}
 use Rattle.serde_json.specs.Read.{of_items, converted}

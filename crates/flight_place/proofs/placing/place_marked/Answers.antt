@@ -1,11 +1,11 @@
-use Rattle.std.proofs.Common.{◌≡◌, ◌+◌, ◌∷◌, [], length, Some, None, refl, sym, ap, ap₂, subst, ◌∙◌, arith}
+use Rattle.std.proofs.Common.{◌≡◌, ◌+◌, ◌∷◌, [], length, Some, sym, ap, subst, ◌∙◌, arith}
 use Rattle.std.proofs.lemmas.Result.{err_from_is_err_and}
 use Rattle.json.specs.Json.{parse_map, items, value}
 use Rattle.json.specs.Token as token
 use Rattle.serde_json.specs.Data.{array, item, string}
 use Rattle.serde_json.specs.Read.{of_items, converted}
-use Rattle.flight_place.specs.Parsed.{data_of, items_data}
-use Rattle.flight_place.specs.Places.{visits, count, item_count}
+use Rattle.flight_place.specs.Parsed.{items_data}
+use Rattle.flight_place.specs.Places.{visits, count}
 use Rattle.flight_place.specs.Faults.{Refuses, Adds}
 use Rattle.flight_place.proofs.Parsing.{data-Array}
 use Rattle.flight_place.proofs.OneByOne.{marked-turn, stops-at, stops-unread}

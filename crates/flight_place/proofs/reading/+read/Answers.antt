@@ -1,13 +1,13 @@
-use Rattle.std.proofs.Common.{◌≡◌, ◌-◌, ◌<◌, [], ◌∷◌, length, Some, None, refl, sym, ap, ap₂, ◌∙◌, arith, rules, inl, inr}
+use Rattle.std.proofs.Common.{◌≡◌, ◌-◌, ◌<◌, [], ◌∷◌, length, Some, None, refl, sym, ap, ◌∙◌, arith, rules, inl, inr}
 use Rattle.json.specs.Token.{Token}
 use Rattle.json.specs.Json.{parse_map, after_end_array, read_key, items, members, value}
 use Rattle.json.specs.Reads.{token_of}
 use Rattle.json.proofs.Grammar.{value_is, read_key-shorter}
-use Rattle.serde_json.specs.Data.{null, boolean, number, string, array, object, put}
-use Rattle.serde_json.specs.Read.{of_json, of_items, of_members, converted}
+use Rattle.serde_json.specs.Data.{null, boolean, number, string, array, object}
+use Rattle.serde_json.specs.Read.{of_json, of_items, converted}
 use Rattle.serde_json.specs.View.{number_view}
 use Rattle.flight_place.proofs.Turns.{onto, items-turn, items-no-data, items-over, members-turn, members-no-data, members-no-key, members-over}
-use Rattle.flight_place.specs.Parsed.{data_of, members_data, gathered_data, OrderedMembers}
+use Rattle.flight_place.specs.Parsed.{data_of, gathered_data}
 use Rattle.flight_place.specs.declared.parsed.Parsed.{String, Number, Bool, Null, the_lemmas}
 use Rattle.flight_place.proofs.Ordered.{put-ordered}
 use Rattle.flight_place.proofs.Parsing.{data-Array, data-Object, behind, behind-none, behind-one_more, behind-nothing, an-array, an-object, too-deep}
@@ -22,23 +22,19 @@ pub read_from-returns-then-levels-eq0-clause-err : goal.read_from-returns-then-l
 read_from-returns-then-levels-eq0-clause-err t c refused =
     too-deep c.args.levels (token_of c.args.token ∷ c.args.reader.now) c.args.reader.now (token_of c.args.token) (inl (ap token_of c.in-BeginArray.is)) refl (omega arith)
 
-
 pub read_from-returns-then-levels-eq0-2-clause-err : goal.read_from-returns-then-levels-eq0-2-clause-err
 read_from-returns-then-levels-eq0-2-clause-err t c refused =
     too-deep c.args.levels (token_of c.args.token ∷ c.args.reader.now) c.args.reader.now (token_of c.args.token) (inr (ap token_of c.in-BeginObject.is)) refl (omega arith)
-
 
 pub read_from-returns-in_err-read_items-in-BeginArray-clause-err : goal.read_from-returns-in_err-read_items-in-BeginArray-clause-err
 read_from-returns-in_err-read_items-in-BeginArray-clause-err t c refused =
     let opened = an-array c.args.levels (token_of c.args.token ∷ c.args.reader.now) c.args.reader.now (ap (λ k. token_of k ∷ c.args.reader.now) c.in-BeginArray.is) (omega arith) in
     opened ∙ ap (parse_map array) (c.read_items.ensures.err (grind arith))
 
-
 pub read_from-returns-in_err-read_members-in-BeginObject-clause-err : goal.read_from-returns-in_err-read_members-in-BeginObject-clause-err
 read_from-returns-in_err-read_members-in-BeginObject-clause-err t c refused =
     let opened = an-object c.args.levels (token_of c.args.token ∷ c.args.reader.now) c.args.reader.now (ap (λ k. token_of k ∷ c.args.reader.now) c.in-BeginObject.is) (omega arith) in
     opened ∙ ap (parse_map object) (c.read_members.ensures.err (grind arith))
-
 
 pub read_from-returns-in-String-clause-ok : goal.read_from-returns-in-String-clause-ok
 read_from-returns-in-String-clause-ok t c =
@@ -46,13 +42,11 @@ read_from-returns-in-String-clause-ok t c =
     let seen : data_of (String c.in-String.text) ≡ string c.in-String.text.now = search (rules, the_lemmas) in
     ap (converted of_json) (ap (λ k. value c.args.levels (k ∷ c.args.reader.now)) is ∙ value_is c.args.levels _) ∙ ap (λ d. Some (d, c.args.reader.now)) (sym seen)
 
-
 pub read_from-returns-in-Bool-clause-ok : goal.read_from-returns-in-Bool-clause-ok
 read_from-returns-in-Bool-clause-ok t c =
     let is : token_of c.args.token ≡ Token.boolean c.in-Bool.b = ap token_of c.in-Bool.is in
     let seen : data_of (Bool c.in-Bool.b) ≡ boolean c.in-Bool.b = search (rules, the_lemmas) in
     ap (converted of_json) (ap (λ k. value c.args.levels (k ∷ c.args.reader.now)) is ∙ value_is c.args.levels _) ∙ ap (λ d. Some (d, c.args.reader.now)) (sym seen)
-
 
 pub read_from-returns-in-Null-clause-ok : goal.read_from-returns-in-Null-clause-ok
 read_from-returns-in-Null-clause-ok t c =
@@ -60,25 +54,21 @@ read_from-returns-in-Null-clause-ok t c =
     let seen : data_of (Null) ≡ null = search (rules, the_lemmas) in
     ap (converted of_json) (ap (λ k. value c.args.levels (k ∷ c.args.reader.now)) is ∙ value_is c.args.levels _) ∙ ap (λ d. Some (d, c.args.reader.now)) (sym seen)
 
-
 pub read_from-returns-in-Some-clause-ok : goal.read_from-returns-in-Some-clause-ok
 read_from-returns-in-Some-clause-ok t c =
     let is : token_of c.args.token ≡ Token.number c.in-Number.text.now = ap token_of c.in-Number.is in
     let seen : data_of (Number c.in-Some.number) ≡ number (number_view c.in-Some.number) = search (rules, the_lemmas) in
     ap (converted of_json) (ap (λ k. value c.args.levels (k ∷ c.args.reader.now)) is ∙ value_is c.args.levels _) ∙ rw (← c.in-Some.ensures, seen)
 
-
 pub read_from-returns-in-None-clause-err : goal.read_from-returns-in-None-clause-err
 read_from-returns-in-None-clause-err t c refused =
     let is : token_of c.args.token ≡ Token.number c.in-Number.text.now = ap token_of c.in-Number.is in
     ap (converted of_json) (ap (λ k. value c.args.levels (k ∷ c.args.reader.now)) is ∙ value_is c.args.levels _) ∙ rw (← c.in-None.ensures)
 
-
 pub read_from-returns-in-EndObject-clause-err : goal.read_from-returns-in-EndObject-clause-err
 read_from-returns-in-EndObject-clause-err t c refused =
     let none : value c.args.levels (token_of c.args.token ∷ c.args.reader.now) ≡ None = rw (value_is c.args.levels (token_of c.args.token ∷ c.args.reader.now)) (grind arith) in
     ap (converted of_json) none
-
 
 pub read_from-returns-in_ok-read_items-in-BeginArray-clause-ok : goal.read_from-returns-in_ok-read_items-in-BeginArray-clause-ok
 read_from-returns-in_ok-read_items-in-BeginArray-clause-ok t c =
@@ -86,13 +76,11 @@ read_from-returns-in_ok-read_items-in-BeginArray-clause-ok t c =
     let found = c.in_ok-read_items-in-BeginArray in
     opened ∙ (ap (parse_map array) found.ensures.ok ∙ ap (λ d. Some (d, c.read_items.new.reader)) (sym (data-Array found.field-0)))
 
-
 pub read_from-returns-in_ok-read_members-in-BeginObject-clause-ok : goal.read_from-returns-in_ok-read_members-in-BeginObject-clause-ok
 read_from-returns-in_ok-read_members-in-BeginObject-clause-ok t c =
     let opened = an-object c.args.levels (token_of c.args.token ∷ c.args.reader.now) c.args.reader.now (ap (λ k. token_of k ∷ c.args.reader.now) c.in-BeginObject.is) (omega arith) in
     let found = c.in_ok-read_members-in-BeginObject in
     opened ∙ (ap (parse_map object) found.ensures.ok ∙ ap (λ d. Some (d, c.read_members.new.reader)) (sym (data-Object found.field-0)))
-
 
 pub read_items-items-init : goal.read_items-items-init
 read_items-items-init t c =
