@@ -13,3 +13,7 @@ mod Worked
 pub mod Settled
 pub mod Undefined
 pub mod Rooted
+pub mod Parsing
+pub mod Gathering
+pub mod Turns
+pub mod OneByOne

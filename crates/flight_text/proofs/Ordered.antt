@@ -5,7 +5,6 @@ use Rattle.std.specs.declared.cmp.Ordering.{Ordering}
 use Rattle.std.specs.declared.cmp.Ordering.TheVariants.{Less, Equal, Greater}
 use Rattle.std.specs.Ordering.{nat_cmp, match_ordering, ordering_reverse}
 use Rattle.std.specs.Cmp.Lexicographic.{slice_cmp}
-use Rattle.std.specs.List.{AllByRecursion}
 use Rattle.std.specs.List.Sorted.{IsStrictlySortedBy}
 use Rattle.std.proofs.lemmas.Cmp.{nat_list_cmp_total}
 use Rattle.json.specs.Json as json
@@ -13,23 +12,13 @@ use Rattle.json.specs.Lex.{tokens}
 use Rattle.serde_json.specs.Data.{Data, null, boolean, number, string, array, object, Items, no_items, item, Members, no_members, member, put}
 use Rattle.serde_json.specs.Read.{read, max_depth, of_json, of_items, of_members, number_of}
 use Rattle.flight_value.specs.Graph.{Ascend}
+pub use Rattle.flight_text.specs.Ordered.{names, Below, OrderedMembers}
 
 -- ---- members in order
-
-abbrev pub names : Members → List (List ℕ)
-names no_members = []
-names (member name d ms) = name ∷ names ms
-
-abbrev pub Below : List ℕ → List (List ℕ) → Type 0
-Below k ks = AllByRecursion (λ y. slice_cmp nat_cmp k y ≡ Less) ks
 
 below-trans : (k l : List ℕ) (ks : List (List ℕ)) → slice_cmp nat_cmp k l ≡ Less → Below l ks → Below k ks
 below-trans k l [] e h = tt
 below-trans k l (x ∷ ks) e h = (nat_list_cmp_total.trans k l x e h.0, below-trans k l ks e h.1)
-
-abbrev pub OrderedMembers : Members → Type 0
-OrderedMembers no_members = Unit {0}
-OrderedMembers (member name d ms) = Below name (names ms) × OrderedMembers ms
 
 below-put_at : (o : Ordering) (l k m : List ℕ) (d e : Data) (ms : Members) → slice_cmp nat_cmp l k ≡ Less → Below l (m ∷ names ms) → Below l (names (put k d ms))
     → Below l (names (match_ordering o (member k d (member m e ms)) (member m d ms) (member m e (put k d ms))))
@@ -49,7 +38,7 @@ put-ordered_at Greater k m d e ms is h r =
     let less : slice_cmp nat_cmp m k ≡ Less = nat_list_cmp_total.antisymm m k ∙ ap ordering_reverse is in
     (below-put m k d ms less h.0, r)
 
-put-ordered : (k : List ℕ) (d : Data) (ms : Members) → OrderedMembers ms → OrderedMembers (put k d ms)
+pub put-ordered : (k : List ℕ) (d : Data) (ms : Members) → OrderedMembers ms → OrderedMembers (put k d ms)
 put-ordered k d no_members h = (tt, tt)
 put-ordered k d (member m e ms) h = put-ordered_at (slice_cmp nat_cmp k m) k m d e ms refl h (put-ordered k d ms h.1)
 
