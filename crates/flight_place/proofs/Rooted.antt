@@ -1,6 +1,6 @@
 -- A row that opens no stream has a root place.
-use Rattle.std.proofs.Common.{◌≡◌, ℕ, ◌+◌, ◌<◌, Bool, true, false, List, [], ◌∷◌, length, Option, Some, None, refl, sym, ap, subst, arith}
-use Rattle.std.specs.Prelude.{if◌then◌else◌, ◌==◌}
+use Rattle.std.proofs.Common.{◌≡◌, ℕ, ◌<◌, Bool, true, false, List, [], ◌∷◌, length, Option, Some, None, refl, subst, arith}
+use Rattle.std.specs.Prelude.{if◌then◌else◌}
 use Rattle.std.proofs.lemmas.Bool.{false≢true}
 use Rattle.serde_json.specs.Data.{Data, null, boolean, number, string, array, object, Items, no_items, item}
 use Rattle.serde_json.specs.Read.{read}
@@ -10,7 +10,7 @@ use Rattle.flight_row.specs.declared.row.RowKind.TheVariants as row
 use Rattle.flight_place.specs.declared.place.Manner.{Manner}
 use Rattle.flight_place.specs.declared.place.Place.{Place}
 use Rattle.flight_place.specs.declared.place.PlaceTree.{PlaceTree}
-use Rattle.flight_place.specs.Places.{Visit, faulty, visits, element_visits, marked_visits, array_visits, is_marked, is_element, HavePlaces}
+use Rattle.flight_place.specs.Places.{faulty, visits, element_visits, marked_visits, array_visits, is_marked, is_element, HavePlaces}
 use Rattle.flight_place.specs.Rows.{model_visits, row_visits, IsTree}
 use Rattle.flight_place.specs.declared.fault.PlaceKind.TheVariants.{BadElement}
 
