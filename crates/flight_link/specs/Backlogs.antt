@@ -5,7 +5,7 @@ use Rattle.flight_link.specs.declared.node.State.TheVariants.{Absent, Ended, Los
 use Rattle.flight_link.specs.declared.backlog.Backlog.{Backlog}
 use Rattle.flight_link.specs.declared.node.Start.{Start}
 use Rattle.flight_link.specs.declared.table.Table.{Table}
-use Rattle.flight_link.specs.Nodes.{has_ended, is_done, IsQuiet, IsSound, IsNodeAt, steps_left}
+use Rattle.flight_link.specs.Nodes.{has_ended, is_done, IsQuiet, AreQuiet, IsSound, IsNodeAt, steps_left}
 
 -- the number that a table has for a node
 abbrev pub cell : List (Option ℕ) → ℕ → Option ℕ
@@ -69,6 +69,11 @@ pub record AreBegun (count node : ℕ) (states : List State) (b : Backlog) : Typ
 pub record IsAtRest (states : List State) (b : Backlog) : Type 0 where
   pub are_listed : AreListed (length states) None states b
   pub none : b.ended.items ≡ []
+
+-- the same, and no walk stands behind one that has ended
+pub record IsSettled (states : List State) (b : Backlog) : Type 0 where
+  pub rest : IsAtRest states b
+  pub quiet : AreQuiet states
 
 -- there is room for all nodes
 pub record HasRoom (states : List State) (b : Backlog) : Type 0 where

@@ -2,7 +2,7 @@ ghost use Rattle.std.specs.Prelude.{IfOk, ◌+◌, ◌≡◌, ◌++◌, ◌∷�
 ghost use Rattle.flight_place.specs.Linked.{rows_of};
 ghost use Rattle.flight_link.specs.Adding.{is_of_stream};
 ghost use Rattle.flight_link.specs.Nodes.{IsTable, AreStates, AreQuiet, IsFine};
-ghost use Rattle.flight_link.specs.Backlogs.{AreBegun, IsAtRest};
+ghost use Rattle.flight_link.specs.Backlogs.{AreBegun, IsAtRest, IsSettled};
 ghost use Rattle.flight_link.specs.declared.backlog.Backlog.{Backlog};
 ghost use Rattle.flight_link.specs.Growth.{MayCome, number_in, root_of};
 
@@ -46,6 +46,29 @@ impl Table {
             return Err(Memory);
         };
         let fresh = self.fresh(alloc, number, row.tree.places.as_slice())?;
+        self.link_row(states, backlog, row, fresh, node)
+    }
+
+    /// Adds a row with the nodes of its places. Walks go on as far as it lets them.
+    fn link_row(
+        &mut self,
+        states: &mut Vec<State>,
+        backlog: &mut Backlog,
+        row: PlacedRow,
+        fresh: Fresh,
+        node: u32,
+    ) -> Result<(), Memory>
+        requires table { IsTable self.old }
+        requires states { AreStates self.old states.old.items }
+        requires quiet { AreQuiet states.old.items }
+        requires rest { IsAtRest states.old.items backlog.old }
+        requires may { MayCome self.old row fresh node }
+        ensures ok { OnOk result (self.new.rows.items ≡ self.old.rows.items ++ row ∷ []) }
+        ensures err { OnErr result (self.new.rows.items ≡ self.old.rows.items) }
+        ensures table { IsTable self.new }
+        ensures states { AreStates self.new states.new.items }
+        ensures settled { IsSettled states.new.items backlog.new }
+    {
         let nodes = numbers(states.len(), fresh.states.len())?;
         backlog.reach(nodes.end as usize)?;
         self.push_row(states, row, fresh, node)?;

@@ -1,6 +1,6 @@
 ghost use Rattle.std.specs.Prelude.{Some, None, ℕ, ◌≡◌, ◌≢◌, ◌<◌, ◌≤◌, length, slice_get, slice_set, true, MatchOption, vec_capacity};
 ghost use Rattle.flight_link.specs.declared.node.Start.{Start};
-ghost use Rattle.flight_link.specs.Backlogs.{AreBegun, AreListed, HasRoom, IsAtRest, StandsBehind, GoesOn, to_do};
+ghost use Rattle.flight_link.specs.Backlogs.{AreBegun, AreListed, HasRoom, IsAtRest, IsSettled, StandsBehind, GoesOn, to_do};
 ghost use Rattle.flight_link.specs.Nodes.{IsTable, AreStates, AreQuiet, IsQuiet, IsLoose, Moves, IsNodeAt, names_of, names_in, followed, has_ended};
 
 use crate::advance::{last_of, state_at};
@@ -23,8 +23,7 @@ impl Table {
         requires below { node < nodes.start }
         requires all { (nodes.start ≤ nodes.end) × (nodes.end ≡ length states.old) }
         ensures states { AreStates self.now states.new }
-        ensures quiet { AreQuiet states.new }
-        ensures rest { IsAtRest states.new backlog.new }
+        ensures settled { IsSettled states.new backlog.new }
     {
         self.hang(states, backlog, node);
         for fresh in nodes.start..nodes.end {
