@@ -1,9 +1,12 @@
-ghost use Rattle.std.specs.Prelude.{◌≡◌, ◌++◌, ◌∷◌, [], ◌<◌, false, length, slice_set, OnOk, OnErr};
+ghost use Rattle.std.specs.Prelude.{IfOk, ◌+◌, ◌≡◌, ◌++◌, ◌∷◌, [], ◌<◌, false, length, slice_set, OnOk, OnErr};
 ghost use Rattle.flight_place.specs.Linked.{rows_of};
 ghost use Rattle.flight_link.specs.Adding.{is_of_stream};
 ghost use Rattle.flight_link.specs.Nodes.{IsTable, AreStates, AreQuiet, IsFine};
+ghost use Rattle.flight_link.specs.Backlogs.{AreBegun, IsAtRest, IsSettled};
+ghost use Rattle.flight_link.specs.declared.backlog.Backlog.{Backlog};
 ghost use Rattle.flight_link.specs.Growth.{MayCome, number_in, root_of};
 
+use crate::backlog::Backlog;
 use crate::found::Spot;
 use crate::fresh::Fresh;
 use crate::node::State;
@@ -12,18 +15,21 @@ use crate::table::{Known, Table};
 use flight_place::PlacedRow;
 use flight_value::{List, Memory};
 use std::alloc::Global;
+use std::ops::Range;
 
 impl Table {
     /// Adds a row that may follow the others. Walks go on as far as it lets them.
     pub fn add(
         &mut self,
         states: &mut Vec<State>,
+        backlog: &mut Backlog,
         alloc: Global,
         row: PlacedRow,
     ) -> Result<(), Memory>
         requires table { IsTable self.old }
         requires states { AreStates self.old states.old.items }
         requires quiet { AreQuiet states.old.items }
+        requires rest { IsAtRest states.old.items backlog.old }
         requires none { rows_of row.id self.old.rows.items ≡ [] }
         requires kind { is_of_stream row.tree.kind ≡ false }
         requires fine { IsFine row }
@@ -32,6 +38,7 @@ impl Table {
         ensures table { IsTable self.new }
         ensures states { AreStates self.new states.new.items }
         ensures quiet { AreQuiet states.new.items }
+        ensures rest { IsAtRest states.new.items backlog.new }
     {
         let node = self.named(states, row.id)?;
         self.name_all(states, row.tree.places.as_slice())?;
@@ -39,8 +46,33 @@ impl Table {
             return Err(Memory);
         };
         let fresh = self.fresh(alloc, number, row.tree.places.as_slice())?;
+        self.link_row(states, backlog, row, fresh, node)
+    }
+
+    /// Adds a row with the nodes of its places. Walks go on as far as it lets them.
+    fn link_row(
+        &mut self,
+        states: &mut Vec<State>,
+        backlog: &mut Backlog,
+        row: PlacedRow,
+        fresh: Fresh,
+        node: u32,
+    ) -> Result<(), Memory>
+        requires table { IsTable self.old }
+        requires states { AreStates self.old states.old.items }
+        requires quiet { AreQuiet states.old.items }
+        requires rest { IsAtRest states.old.items backlog.old }
+        requires may { MayCome self.old row fresh node }
+        ensures ok { OnOk result (self.new.rows.items ≡ self.old.rows.items ++ row ∷ []) }
+        ensures err { OnErr result (self.new.rows.items ≡ self.old.rows.items) }
+        ensures table { IsTable self.new }
+        ensures states { AreStates self.new states.new.items }
+        ensures settled { IsSettled states.new.items backlog.new }
+    {
+        let nodes = numbers(states.len(), fresh.states.len())?;
+        backlog.reach(nodes.end as usize)?;
         self.push_row(states, row, fresh, node)?;
-        self.settle(states);
+        self.settle(states, backlog, nodes, node);
         Ok(())
     }
 
@@ -60,6 +92,8 @@ impl Table {
         ensures table { IsTable self.new }
         ensures states { AreStates self.new states.new.items }
         ensures quiet { OnErr result (states.new.items ≡ states.old.items) }
+        ensures count { OnOk result (length states.new.items ≡ length states.old.items + length fresh.states.items) }
+        ensures listed { (backlog : Backlog) → AreQuiet states.old.items → IsAtRest states.old.items backlog → OnOk result (AreBegun (length states.old.items) node states.new.items backlog) }
     {
         let Ok(number) = u32::try_from(self.rows.len()) else {
             return Err(Memory);
@@ -86,6 +120,19 @@ impl Table {
         put_state(states, node, root);
         Ok(())
     }
+}
+
+/// The numbers of so many nodes behind the others.
+fn numbers(count: usize, more: usize) -> Result<Range<u32>, Memory>
+    ensures { IfOk result (λ r. (r.start ≡ count) × (r.end ≡ count + more)) }
+{
+    let Ok(start) = u32::try_from(count) else {
+        return Err(Memory);
+    };
+    let Ok(end) = u32::try_from(count.saturating_add(more)) else {
+        return Err(Memory);
+    };
+    Ok(start..end)
 }
 
 /// The state of an id's node once its row is there.

@@ -11,6 +11,7 @@
 
 mod add;
 mod advance;
+mod backlog;
 mod fault;
 mod find;
 mod found;

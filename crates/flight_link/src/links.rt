@@ -5,6 +5,7 @@ ghost use Rattle.flight_link.specs.declared.fault.LinkKind.{LinkKind};
 ghost use Rattle.flight_link.specs.Adding.{is_of_stream as is_of_stream_spec, IsPlaced, MayFollow, IsRefused};
 ghost use Rattle.flight_link.specs.Finding.{IsFound};
 
+use crate::backlog::Backlog;
 use crate::fault::{LinkFault, LinkKind};
 use crate::found::Found;
 use crate::node::State;
@@ -23,18 +24,20 @@ pub struct Links {
     table: Table,
     /// Where the walks of the table's nodes stand.
     states: Vec<State>,
+    backlog: Backlog,
 }
 
 impl Model for Links {
     ghost use Rattle.std.specs.Prelude.{List};
     ghost use Rattle.flight_place.specs.declared.place.PlacedRow.{PlacedRow};
+    ghost use Rattle.flight_link.specs.Backlogs.{IsAtRest};
     ghost use Rattle.flight_link.specs.Nodes.{AreLinked};
 
     ghost Value = { List PlacedRow };
 
     ghost view = { λ l. l.table.rows.items };
 
-    ghost invariant = { λ l. AreLinked l.table l.states.items };
+    ghost invariant = { λ l. AreLinked l.table l.states.items × IsAtRest l.states.items l.backlog };
 }
 
 impl Links {
@@ -51,6 +54,11 @@ impl Links {
                 known: HashMap::new(alloc),
             },
             states: Vec::new(alloc),
+            backlog: Backlog {
+                first: Vec::new(alloc),
+                next: Vec::new(alloc),
+                ended: Vec::new(alloc),
+            },
         }
     }
 
@@ -98,8 +106,12 @@ impl Links {
         if self.table.has_row(id) {
             return Err(LinkFault::Fault(LinkKind::Twice { id }));
         }
-        self.table
-            .add(&mut self.states, self.alloc, PlacedRow { id, tree })?;
+        self.table.add(
+            &mut self.states,
+            &mut self.backlog,
+            self.alloc,
+            PlacedRow { id, tree },
+        )?;
         Ok(())
     }
 }

@@ -2,6 +2,8 @@ ghost use Rattle.std.specs.Prelude.{IfOk};
 ghost use Rattle.flight_link.specs.declared.node.Start.{Start};
 ghost use Rattle.flight_link.specs.declared.node.Start.TheVariants as start;
 ghost use Rattle.flight_link.specs.Nodes.{IsTable, AreStates, AreQuiet, IsNodeAt};
+ghost use Rattle.flight_link.specs.Backlogs.{IsAtRest};
+ghost use Rattle.flight_link.specs.declared.backlog.Backlog.{Backlog};
 ghost use Rattle.flight_link.specs.Growth.{Keeps};
 
 use crate::node::{Start, State};
@@ -19,6 +21,7 @@ impl Table {
         ensures table { IsTable self.new }
         ensures states { AreStates self.new states.new.items }
         ensures quiet { AreQuiet states.old.items → AreQuiet states.new.items }
+        ensures rest { (backlog : Backlog) → IsAtRest states.old.items backlog → IsAtRest states.new.items backlog }
         ensures keeps { Keeps self.old self.new }
         ensures node { IfOk result (λ n. IsNodeAt self.new.starts.items n (start.Id id)) }
     {
@@ -43,6 +46,7 @@ impl Table {
         ensures table { IsTable self.new }
         ensures states { AreStates self.new states.new.items }
         ensures quiet { AreQuiet states.old.items → AreQuiet states.new.items }
+        ensures rest { (backlog : Backlog) → IsAtRest states.old.items backlog → IsAtRest states.new.items backlog }
         ensures keeps { Keeps self.old self.new }
     {
         for place in places {
@@ -57,6 +61,7 @@ impl Table {
         ensures table { IsTable self.new }
         ensures states { AreStates self.new states.new.items }
         ensures quiet { AreQuiet states.old.items → AreQuiet states.new.items }
+        ensures rest { (backlog : Backlog) → IsAtRest states.old.items backlog → IsAtRest states.new.items backlog }
         ensures keeps { Keeps self.old self.new }
     {
         match walk_of(place) {

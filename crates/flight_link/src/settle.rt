@@ -1,25 +1,92 @@
-ghost use Rattle.std.specs.Prelude.{◌≡◌, ◌<◌, length, slice_get, true, MatchOption};
+ghost use Rattle.std.specs.Prelude.{Some, None, ℕ, ◌≡◌, ◌≢◌, ◌<◌, ◌≤◌, length, slice_get, slice_set, true, MatchOption, vec_capacity};
 ghost use Rattle.flight_link.specs.declared.node.Start.{Start};
+ghost use Rattle.flight_link.specs.Backlogs.{AreBegun, AreListed, HasRoom, IsAtRest, IsSettled, StandsBehind, GoesOn, to_do};
 ghost use Rattle.flight_link.specs.Nodes.{IsTable, AreStates, AreQuiet, IsQuiet, IsLoose, Moves, IsNodeAt, names_of, names_in, followed, has_ended};
 
-use crate::advance::last_of;
+use crate::advance::{last_of, state_at};
+use crate::backlog::Backlog;
 use crate::node::{Loose, Start, State};
 use crate::step::walk_of;
 use crate::table::Table;
 use flight_place::Place;
 use flight_value::Text;
+use std::ops::Range;
 
 impl Table {
-    /// Lets walks go on until none stands behind one that has ended.
-    pub fn settle(&self, states: &mut [State])
+    /// Lets walks go on until none stands behind one that has ended. One of the nodes and those from a number on are
+    /// not in the lists yet.
+    pub fn settle(&self, states: &mut [State], backlog: &mut Backlog, nodes: Range<u32>, node: u32)
         requires table { IsTable self.now }
         requires states { AreStates self.now states.old }
+        requires begun { AreBegun nodes.start node states.old backlog.old }
+        requires room { HasRoom states.old backlog.old }
+        requires below { node < nodes.start }
+        requires all { (nodes.start ≤ nodes.end) × (nodes.end ≡ length states.old) }
+        ensures states { AreStates self.now states.new }
+        ensures settled { IsSettled states.new backlog.new }
+    {
+        self.hang(states, backlog, node);
+        for fresh in nodes.start..nodes.end {
+            self.hang(states, backlog, fresh);
+        }
+        self.drain(states, backlog);
+    }
+
+    /// Lets the walks go on that stand behind those that have ended.
+    fn drain(&self, states: &mut [State], backlog: &mut Backlog)
+        requires table { IsTable self.now }
+        requires states { AreStates self.now states.old }
+        requires listed { AreListed (length states.old) None states.old backlog.old }
+        requires room { HasRoom states.old backlog.old }
         ensures states { AreStates self.now states.new }
         ensures quiet { AreQuiet states.new }
+        ensures rest { IsAtRest states.new backlog.new }
     {
-        while let Some(loose) = loose(states) {
-            let next = self.moved(states, loose);
-            states[loose.node] = next;
+        while let Some(ended) = backlog.last() {
+            match backlog.take(ended) {
+                Some(node) => self.hang(states, backlog, node),
+                None => backlog.leave(),
+            }
+        }
+    }
+
+    /// Lets a walk go on as far as it can, and puts it where it stands then.
+    fn hang(&self, states: &mut [State], backlog: &mut Backlog, node: u32)
+        requires table { IsTable self.now }
+        requires states { AreStates self.now states.old }
+        requires node { node < length states.old }
+        requires room { HasRoom states.old backlog.old }
+        requires space { length backlog.old.ended.items < vec_capacity backlog.old.ended }
+        ensures states { AreStates self.now states.new }
+        ensures room { HasRoom states.new backlog.new }
+        ensures listed { (count : ℕ) → node < count → AreListed count (Some node) states.old backlog.old → AreListed count None states.new backlog.new }
+        ensures fewer { (behind : ℕ) → StandsBehind states.old node behind → has_ended states.old behind ≡ true → to_do states.new backlog.new < to_do states.old backlog.old }
+        ensures count { length states.new ≡ length states.old }
+        ensures others { (n : ℕ) → node ≢ n → slice_get states.new n ≡ slice_get states.old n }
+    {
+        let next = self.onward(states, node);
+        put_at(states, node, next);
+        backlog.put(node, next);
+    }
+
+    /// Where a walk goes on to, if the one behind which it stands has ended.
+    fn onward(&self, states: &[State], node: u32) -> State
+        requires table { IsTable self.now }
+        requires states { AreStates self.now states.now }
+        requires node { node < length states.now }
+        ensures { GoesOn self.now states.now node result }
+    {
+        let state = state_at(states, node);
+        match ended_behind(states, state) {
+            Some((behind, left)) => self.moved(
+                states,
+                Loose {
+                    node: node as usize,
+                    behind,
+                    left,
+                },
+            ),
+            None => state,
         }
     }
 
@@ -28,7 +95,8 @@ impl Table {
         requires table { IsTable self.now }
         requires states { AreStates self.now states.now }
         requires loose { IsLoose states.now loose }
-        ensures { Moves self.now loose result }
+        ensures moves { Moves self.now loose result }
+        ensures quiet { IsQuiet states.now result }
     {
         let names = last_of(self.names(loose.node), loose.left);
         self.advance(states, loose.behind, names)
@@ -67,16 +135,11 @@ fn names_at(place: &Place) -> &[Text]
     }
 }
 
-/// The first walk that stands behind one that has ended.
-fn loose(states: &[State]) -> Option<Loose>
-    ensures { MatchOption result (AreQuiet states.now) (IsLoose states.now) }
+fn put_at(states: &mut [State], node: u32, state: State)
+    requires { node < length states.old }
+    ensures { states.new ≡ slice_set states.old node state }
 {
-    for (node, state) in states.iter().enumerate() {
-        if let Some((behind, left)) = ended_behind(states, *state) {
-            return Some(Loose { node, behind, left });
-        }
-    }
-    None
+    states[node as usize] = state;
 }
 
 /// The node behind which a walk stands, if that one's has ended, and how many names are left.

@@ -13,5 +13,5 @@ last_of-names-requires c =
 pub advance-requires-clause-node : goal.advance-requires-clause-node
 advance-requires-clause-node c = loose_behind c.args.self.now c.args.states.now c.args.loose c.requires.states c.requires.loose
 
-pub returns : goal.returns
-returns c = moves c.args.self.now c.args.states.now c.args.loose c.names.result.now c.last_of-names.result.now c.advance.result c.requires.states c.requires.loose c.names.ensures c.last_of-names.ensures c.advance.ensures.leads c.advance.ensures.fewer
+pub returns-clause-moves : goal.returns-clause-moves
+returns-clause-moves c = moves c.args.self.now c.args.states.now c.args.loose c.names.result.now c.last_of-names.result.now c.advance.result c.requires.states c.requires.loose c.names.ensures c.last_of-names.ensures c.advance.ensures.leads c.advance.ensures.fewer

@@ -6,5 +6,6 @@ loop-place-preserved c = record {
   table = c.in_ok-name.ensures.table;
   states = c.in_ok-name.ensures.states;
   quiet = λ q. c.in_ok-name.ensures.quiet (c.loop-place.invariant.quiet q);
+  rest = λ backlog r. c.in_ok-name.ensures.rest backlog (c.loop-place.invariant.rest backlog r);
   keeps = keeps_on c.args.self.now c.loop-place.self c.name.new.self c.loop-place.invariant.keeps c.in_ok-name.ensures.keeps;
 }

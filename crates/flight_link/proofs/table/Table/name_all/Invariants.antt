@@ -1,4 +1,6 @@
 use Rattle.flight_link.specs.Nodes.{IsTable, AreStates, AreQuiet}
+use Rattle.flight_link.specs.Backlogs.{IsAtRest}
+use Rattle.flight_link.specs.declared.backlog.Backlog.{Backlog}
 use Rattle.flight_link.specs.Growth.{Keeps}
 use Rattle.flight_link.proofs.table.Table.name_all.Given as goal
 
@@ -7,5 +9,6 @@ invariant-loop-place l = record {
   table : IsTable l.self;
   states : AreStates l.self l.states.items;
   quiet : AreQuiet l.fn.states.items → AreQuiet l.states.items;
+  rest : (backlog : Backlog) → IsAtRest l.fn.states.items backlog → IsAtRest l.states.items backlog;
   keeps : Keeps l.fn.self l.self;
 }

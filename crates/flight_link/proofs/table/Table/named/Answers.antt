@@ -8,6 +8,7 @@ use Rattle.flight_link.specs.declared.node.Start.TheVariants.{Id}
 use Rattle.flight_link.specs.declared.node.State.{State}
 use Rattle.flight_link.specs.declared.node.State.TheVariants.{Absent}
 use Rattle.flight_link.proofs.Growing.{IsNamedNow, named_table, named_states, name_quiet, push_at}
+use Rattle.flight_link.proofs.Hanging.{rest_absent}
 use Rattle.flight_link.proofs.table.Table.named.Goals as goal
 
 pub returns-clause-table : goal.returns-clause-table
@@ -38,3 +39,6 @@ returns-clause-node c =
     let number : c.in-Ok.node ≡ length c.args.self.now.starts.items = search rules in
     let added = c.put_last.ensures ∙ ap (λ (x : List Start). x ++ Id c.args.id ∷ []) c.reserve.ensures.items in
     ap (λ (x : List Start). slice_get x c.in-Ok.node) added ∙ (ap (slice_get (c.args.self.now.starts.items ++ Id c.args.id ∷ [])) number ∙ push_at c.args.self.now.starts.items (Id c.args.id))
+
+pub returns-clause-rest : goal.returns-clause-rest
+returns-clause-rest c = λ backlog rest. rest_absent c.args.states.now.items c.put_last-2.new.list.items backlog (c.put_last-2.ensures ∙ ap (λ (x : List State). x ++ Absent ∷ []) c.reserve-2.ensures.items) rest

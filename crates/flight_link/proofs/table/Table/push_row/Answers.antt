@@ -6,6 +6,7 @@ use Rattle.flight_link.specs.declared.node.Start.{Start}
 use Rattle.flight_link.specs.declared.node.State.{State}
 use Rattle.flight_link.specs.Growth.{root_of}
 use Rattle.flight_link.proofs.RowComes.{HasCome, table_added, states_added}
+use Rattle.flight_link.proofs.Hanging.{row_begun}
 use Rattle.flight_link.proofs.table.Table.push_row.Goals as goal
 
 pub returns-clause-table : goal.returns-clause-table
@@ -35,3 +36,13 @@ returns-clause-states c =
     ∙ (ap (λ (x : List State). slice_set x c.args.node c.root_state-root.result) (c.append_last-2.ensures ∙ ap (λ (x : List State). x ++ c.args.fresh.states.items) c.reserve-4.ensures.items)
     ∙ ap (λ x. slice_set (c.args.states.now.items ++ c.args.fresh.states.items) c.args.node x)
     (c.root_state-root.ensures ∙ (ap (λ x. root_of x c.in-Ok.number) c.as_slice.ensures.value ∙ ap (root_of c.args.fresh.index.items) number))))
+
+pub returns-clause-listed : goal.returns-clause-listed
+returns-clause-listed c = λ backlog quiet rest.
+    let number : c.in-Ok.number ≡ length c.args.self.now.rows.items = search rules in
+    row_begun c.args.self.now c.args.row c.args.fresh c.args.node c.args.states.now.items c.put_state.new.states.items backlog c.requires.table c.requires.may c.requires.states
+    (c.put_state.ensures
+    ∙ (ap (λ (x : List State). slice_set x c.args.node c.root_state-root.result) (c.append_last-2.ensures ∙ ap (λ (x : List State). x ++ c.args.fresh.states.items) c.reserve-4.ensures.items)
+    ∙ ap (λ x. slice_set (c.args.states.now.items ++ c.args.fresh.states.items) c.args.node x)
+    (c.root_state-root.ensures ∙ (ap (λ x. root_of x c.in-Ok.number) c.as_slice.ensures.value ∙ ap (root_of c.args.fresh.index.items) number))))
+    quiet rest
