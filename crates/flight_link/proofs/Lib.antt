@@ -10,3 +10,4 @@ pub mod Standing
 pub mod Waits
 pub mod Finds
 pub mod Defined
+pub mod Targets

@@ -7,3 +7,4 @@ pub mod Nodes
 pub mod Growth
 pub mod Waiting
 pub mod Least
+pub mod Targets

@@ -22,6 +22,7 @@ mod room;
 mod settle;
 mod step;
 mod table;
+mod target;
 mod undefined;
 
 pub use fault::{LinkFault, LinkKind};
