@@ -11,3 +11,6 @@ pub mod Waits
 pub mod Finds
 pub mod Defined
 pub mod Targets
+pub mod Slots
+pub mod Marks
+pub mod Sights

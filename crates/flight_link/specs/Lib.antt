@@ -8,3 +8,5 @@ pub mod Growth
 pub mod Waiting
 pub mod Least
 pub mod Targets
+pub mod Slots
+pub mod Marks

@@ -11,11 +11,14 @@
 
 mod add;
 mod advance;
+mod below;
 mod fault;
 mod find;
 mod found;
 mod fresh;
 mod links;
+mod look;
+mod mention;
 mod named;
 mod node;
 mod room;
