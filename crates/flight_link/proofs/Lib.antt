@@ -12,3 +12,7 @@ pub mod Finds
 pub mod Defined
 pub mod Backlogs
 pub mod Hanging
+pub mod Targets
+pub mod Slots
+pub mod Marks
+pub mod Sights

@@ -39,7 +39,7 @@ item_within total k (q ∷ qs) name n all e =
     picked (λ m. m < total) (bytes_eq (decimal k) name) q n (item_from (suc k) qs name) (All-head (λ m. m < total) q qs all)
     (item_within total (suc k) qs name n (All-tail (λ m. m < total) q qs all)) e
 
-property_within : (total : ℕ) (ps : List Named) (name : List ℕ) (n : ℕ) → All (λ (p : Named). p.place < total) ps → property ps name ≡ Some n → n < total
+pub property_within : (total : ℕ) (ps : List Named) (name : List ℕ) (n : ℕ) → All (λ (p : Named). p.place < total) ps → property ps name ≡ Some n → n < total
 property_within total [] name n all e = absurd (none-some n e)
 property_within total (p ∷ ps) name n all e =
     picked (λ m. m < total) (bytes_eq p.name name) p.place n (property ps name) (All-head (λ (p : Named). p.place < total) p ps all)

@@ -8,3 +8,6 @@ pub mod Growth
 pub mod Waiting
 pub mod Least
 pub mod Backlogs
+pub mod Targets
+pub mod Slots
+pub mod Marks

@@ -12,17 +12,21 @@
 mod add;
 mod advance;
 mod backlog;
+mod below;
 mod fault;
 mod find;
 mod found;
 mod fresh;
 mod links;
+mod look;
+mod mention;
 mod named;
 mod node;
 mod room;
 mod settle;
 mod step;
 mod table;
+mod target;
 mod undefined;
 
 pub use fault::{LinkFault, LinkKind};

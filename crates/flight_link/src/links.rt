@@ -1,4 +1,5 @@
-ghost use Rattle.std.specs.Prelude.{◌≡◌, ◌≢◌, ◌++◌, ◌∷◌, [], ◌<◌, ◌^◌, ◌↔◌, IsTrue, OnOk, OnErr};
+ghost use Rattle.std.specs.Prelude.{◌≡◌, ◌≢◌, ◌++◌, ◌∷◌, [], ◌<◌, ◌^◌, ◌↔◌, IsTrue, OnOk, OnErr, MatchOption, ◌≤◌, ◌+◌};
+ghost use Rattle.flight_link.specs.Looking.{IsSeen};
 ghost use Rattle.flight_place.specs.Linked.{rows_of, FollowOn};
 ghost use Rattle.flight_place.specs.Good.{IsLeastUndefined};
 ghost use Rattle.flight_link.specs.declared.fault.LinkKind.{LinkKind};
@@ -7,8 +8,10 @@ ghost use Rattle.flight_link.specs.Finding.{IsFound};
 
 use crate::backlog::Backlog;
 use crate::fault::{LinkFault, LinkKind};
-use crate::found::Found;
+use crate::found::{Found, Seen};
+use crate::mention::Bases;
 use crate::node::State;
+use crate::room::put_last;
 use crate::table::Table;
 use flight_place::{PlaceTree, PlacedRow};
 use flight_row::RowKind;
@@ -25,19 +28,23 @@ pub struct Links {
     /// Where the walks of the table's nodes stand.
     states: Vec<State>,
     backlog: Backlog,
+    /// How many places stand before each row.
+    before: Vec<u32>,
+    /// How many places there are, 2^32 at most.
+    total: u64,
 }
 
 impl Model for Links {
     ghost use Rattle.std.specs.Prelude.{List};
     ghost use Rattle.flight_place.specs.declared.place.PlacedRow.{PlacedRow};
     ghost use Rattle.flight_link.specs.Backlogs.{IsAtRest};
-    ghost use Rattle.flight_link.specs.Nodes.{AreLinked};
+    ghost use Rattle.flight_link.specs.Marks.{IsWhole};
 
     ghost Value = { List PlacedRow };
 
     ghost view = { λ l. l.table.rows.items };
 
-    ghost invariant = { λ l. AreLinked l.table l.states.items × IsAtRest l.states.items l.backlog };
+    ghost invariant = { λ l. IsWhole l.table l.states.items l.before.items l.total × IsAtRest l.states.items l.backlog };
 }
 
 impl Links {
@@ -59,6 +66,8 @@ impl Links {
                 next: Vec::new(alloc),
                 ended: Vec::new(alloc),
             },
+            before: Vec::new(alloc),
+            total: 0,
         }
     }
 
@@ -83,6 +92,17 @@ impl Links {
         self.table.least_undefined(self.states.as_slice())
     }
 
+    /// What a path of numbers of slots shows from the root. The mark of a node is the same whatever rows come later.
+    pub fn look(&self, path: &[u32]) -> Seen<'_>
+        ensures { IsSeen self.now path.now result }
+    {
+        let bases = Bases {
+            before: self.before.as_slice(),
+            total: self.total,
+        };
+        self.table.look(self.states.as_slice(), bases, path)
+    }
+
     /// A fact alone: no row was refused.
     pub fn follow_on(&self)
         ensures { FollowOn self.now }
@@ -92,7 +112,7 @@ impl Links {
 
     /// Adds a row behind those that came. It may not follow them where its id has a row already, where no row may
     /// close it, and, for now, where it opens or closes a stream (React 19.0, `resolveModelChunk` of
-    /// ReactFlightClient, which drops such rows).
+    /// ReactFlightClient, which drops such rows). More than 2^32 places in all are want of memory.
     pub fn add(&mut self, id: u32, tree: PlaceTree) -> Result<(), LinkFault>
         requires small { id < 2 ^ 31 }
         requires placed { IsPlaced id tree }
@@ -106,12 +126,23 @@ impl Links {
         if self.table.has_row(id) {
             return Err(LinkFault::Fault(LinkKind::Twice { id }));
         }
+        let Some(total) = sum_of(self.total, tree.places.as_slice().len()) else {
+            return Err(LinkFault::Memory);
+        };
+        let Ok(base) = u32::try_from(self.total) else {
+            return Err(LinkFault::Memory);
+        };
+        if self.before.reserve(1).is_err() {
+            return Err(LinkFault::Memory);
+        }
         self.table.add(
             &mut self.states,
             &mut self.backlog,
             self.alloc,
             PlacedRow { id, tree },
         )?;
+        put_last(&mut self.before, base);
+        self.total = total;
         Ok(())
     }
 }
@@ -121,4 +152,14 @@ fn is_of_stream(kind: RowKind) -> bool
     ensures { result ≡ is_of_stream_spec kind }
 {
     matches!(kind, RowKind::Open(_) | RowKind::Close)
+}
+
+/// How many places there are with those of a row, if they have numbers.
+fn sum_of(total: u64, places: usize) -> Option<u64>
+    ensures { MatchOption result (Unit {0}) (λ sum. (sum ≡ total + places) × (sum ≤ 2 ^ 32)) }
+{
+    match total.checked_add(places as u64) {
+        Some(sum) if sum <= 1 << 32 => Some(sum),
+        _ => None,
+    }
 }

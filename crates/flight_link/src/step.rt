@@ -29,7 +29,7 @@ fn item(numbers: &[u32], name: &Text) -> Option<u32>
 }
 
 /// The number at an index.
-fn number_at(numbers: &[u32], index: usize) -> Option<u32>
+pub fn number_at(numbers: &[u32], index: usize) -> Option<u32>
     ensures { result ≡ slice_get numbers.now index }
 {
     numbers.get(index).copied()

@@ -17,3 +17,4 @@ pub mod Parsing
 pub mod Gathering
 pub mod Turns
 pub mod OneByOne
+pub mod Told
