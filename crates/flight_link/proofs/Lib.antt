@@ -10,3 +10,5 @@ pub mod Standing
 pub mod Waits
 pub mod Finds
 pub mod Defined
+pub mod Drawing
+pub mod Drawn

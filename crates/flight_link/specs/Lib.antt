@@ -7,3 +7,6 @@ pub mod Nodes
 pub mod Growth
 pub mod Waiting
 pub mod Least
+pub mod Targets
+pub mod Numbering
+pub mod Drawing

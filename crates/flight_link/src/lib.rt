@@ -11,17 +11,21 @@
 
 mod add;
 mod advance;
+mod draw;
 mod fault;
 mod find;
 mod found;
 mod fresh;
+mod key;
 mod links;
 mod named;
 mod node;
+mod numbers;
 mod room;
 mod settle;
 mod step;
 mod table;
+mod target;
 mod undefined;
 
 pub use fault::{LinkFault, LinkKind};

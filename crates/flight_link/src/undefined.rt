@@ -147,7 +147,7 @@ impl Table {
     }
 
     /// Whether the row of an id describes a server reference.
-    fn has_reference(&self, id: u32) -> bool
+    pub fn has_reference(&self, id: u32) -> bool
         requires { IsTable self.now }
         ensures { IsTrue result ↔ ((r : Reference) × (reference_of self.now.rows.items id ≡ Some r)) }
     {
