@@ -1,5 +1,5 @@
 -- Keys under numbers, and what is drawn under them.
-use Rattle.std.proofs.Common.{true, false, Bool, cond, ◌&&◌, ◌≡◌, ◌≢◌, ℕ, zero, suc, ◌+◌, ◌<◌, ◌≤◌, ◌^◌, nat_eq, List, [], ◌∷◌, ◌++◌, length, map, Option, Some, None, option_and_then, slice_get, refl, sym, ◌∙◌, ap, subst, arith, inl, inr, ◌⊎◌}
+use Rattle.std.proofs.Common.{take, get_or, true, false, Bool, cond, ◌&&◌, ◌≡◌, ◌≢◌, ℕ, zero, suc, ◌+◌, ◌<◌, ◌≤◌, ◌^◌, nat_eq, List, [], ◌∷◌, ◌++◌, length, map, Option, Some, None, option_and_then, slice_get, refl, sym, ◌∙◌, ap, subst, arith, inl, inr, ◌⊎◌}
 use Rattle.std.specs.List.{AllZip, flat_map}
 use Rattle.std.specs.HashMap.{get}
 use Rattle.std.proofs.lemmas.Bool.Decides.{eqb_tells, nat_tests}
@@ -32,6 +32,10 @@ use Rattle.flight_link.specs.Numbering.{pair_eq, number_of, HasNumber, AreNumber
 use Rattle.flight_link.specs.Drawing.{identity_of, Draws, AreSlots, AreProps, IsPairAt, ArePairs, DrawsNode, AreDrawn, AreApart}
 use Rattle.flight_link.proofs.PlainRows.{place_there}
 use Rattle.flight_link.proofs.Growing.{push_get, push_at}
+use Rattle.flight_link.proofs.Finds.{none_before}
+use Rattle.flight_value.specs.declared.graph.Atom.{Atom}
+use Rattle.flight_value.specs.declared.graph.Atom.TheVariants as atom
+use Rattle.std.proofs.lemmas.List.{take_more}
 
 -- ---- numbers of keys
 
@@ -327,3 +331,48 @@ each_push rows keys new nodes key x g each at h n y e =
       | inl p ↦ let w = each n y p in (w.0, grown_at keys new n w.0 g w.1, node_grow rows keys new (identity_of w.0) y g w.2)
       | inr p ↦ (key, subst (λ i. slice_get new i ≡ Some key) (sym p.0) (grown_at keys new (length nodes) key g at), subst (DrawsNode rows new (identity_of key)) p.1 h)
     ]
+
+-- ---- keys of places
+
+pub spot_key : (rows : List PlacedRow) (spot : Spot) (r : PlacedRow) → IsPlain rows → slice_get rows spot.row ≡ Some r → (s : linked.Spot) → IsSpot rows spot s → made_at s ≡ identity_of (Made r.id spot.place)
+spot_key rows spot r plain e s is =
+    let same : is.row ≡ r = same_Some is.row r (sym is.is_row ∙ e) in
+    let id : s.id ≡ r.id = is.id ∙ ap (λ (x : PlacedRow). x.id) same in
+    let none : s.nth ≡ 0 = is.nth ∙ sym (none_before rows spot.row is.row plain is.is_row) in
+    ap (λ i. made_at (record { id = i; nth = s.nth; at = s.at })) id
+    ∙ (ap (λ n. made_at (record { id = r.id; nth = n; at = s.at })) none ∙ ap (λ n. made_at (record { id = r.id; nth = 0; at = n })) is.at)
+
+pub atom_slot : (rows : List PlacedRow) (keys : List NodeKey) (a b : Atom) → b ≡ a → (w : Written) → Leads rows w (store.atom a) × (a ≢ atom.Pending) → Draws rows keys (slot.Atom b) w
+atom_slot rows keys a b e w h = subst (λ x. Leads rows w (store.atom x)) (sym e) h.0
+
+pub spot_slot : (rows : List PlacedRow) (keys : List NodeKey) (n : ℕ) (key : NodeKey) (spot : Spot) → slice_get keys n ≡ Some key → ((s : linked.Spot) → IsSpot rows spot s → made_at s ≡ identity_of key) → (w : Written) → ((s : linked.Spot) × IsSpot rows spot s × Leads rows w (store.node_at (made_at s))) → Draws rows keys (slot.Node n) w
+spot_slot rows keys n key spot e f w h = (key, e, subst (λ k. Leads rows w (store.node_at k)) (f h.0 h.1) h.2)
+
+pub key_slot : (rows : List PlacedRow) (keys : List NodeKey) (n : ℕ) (key : NodeKey) → slice_get keys n ≡ Some key → (w : Written) → Leads rows w (store.node_at (identity_of key)) → Draws rows keys (slot.Node n) w
+key_slot rows keys n key e w h = (key, e, h)
+
+pub same_identity : (rows : List PlacedRow) (keys : List NodeKey) (k i : Identity) (x : Node) → k ≡ i → DrawsNode rows keys k x → DrawsNode rows keys i x
+same_identity rows keys k i x e h = subst (λ j. DrawsNode rows keys j x) e h
+
+pub pair_drawn : (rows : List PlacedRow) (keys new : List NodeKey) (s at : Spot) (n k v : ℕ) (x y : Slot) → IsPlain rows → at ≡ record { row = s.row; place = n } → place_in rows at ≡ Some (place.Array (k ∷ v ∷ [])) → Draws rows keys x (at_place (beside (spot_of rows s) k)) → Grows keys new → Draws rows new y (at_place (beside (spot_of rows s) v)) → IsPairAt rows new (spot_of rows s) (record { key = x; value = y }) n
+pair_drawn rows keys new s at n k v x y plain is e p g q =
+    let spot : Spot = record { row = s.row; place = n } in
+    let there : place_in rows spot ≡ Some (place.Array (k ∷ v ∷ [])) = sym (ap (place_in rows) is) ∙ e in
+    (k, v, ap (entry (beside (spot_of rows s) n)) (place_there rows spot (place.Array (k ∷ v ∷ [])) plain there), draws_grow rows keys new x (at_place (beside (spot_of rows s) k)) g p, q)
+
+-- ---- one item more
+
+pub slots_more : (rows : List PlacedRow) (keys new : List NodeKey) (s : linked.Spot) (slots : List Slot) (ns : List ℕ) (i : ℕ) (x : Slot) → i < length ns → Grows keys new → AreSlots rows keys s slots (take i ns) → Draws rows new x (at_place (beside s (get_or ns i 0))) → AreSlots rows new s (slots ++ x ∷ []) (take (i + 1) ns)
+slots_more rows keys new s slots ns i x lt g h p =
+    subst (AreSlots rows new s (slots ++ x ∷ [])) (sym (take_more ns i 0 lt))
+    (zip_push (λ slot n. Draws rows new slot (at_place (beside s n))) slots (take i ns) x (get_or ns i 0) (slots_grow rows keys new s slots (take i ns) g h) p)
+
+pub pairs_more : (rows : List PlacedRow) (keys new : List NodeKey) (s : linked.Spot) (pairs : List Pair) (ns : List ℕ) (i : ℕ) (x : Pair) → i < length ns → Grows keys new → ArePairs rows keys s pairs (take i ns) → IsPairAt rows new s x (get_or ns i 0) → ArePairs rows new s (pairs ++ x ∷ []) (take (i + 1) ns)
+pairs_more rows keys new s pairs ns i x lt g h p =
+    subst (ArePairs rows new s (pairs ++ x ∷ [])) (sym (take_more ns i 0 lt))
+    (zip_push (IsPairAt rows new s) pairs (take i ns) x (get_or ns i 0) (pairs_grow rows keys new s pairs (take i ns) g h) p)
+
+pub props_more : (rows : List PlacedRow) (keys new : List NodeKey) (s : linked.Spot) (props : List Prop) (ns : List Named) (i : ℕ) (x : Prop) (n : Named) → i < length ns → n ≡ get_or ns i n → Grows keys new → AreProps rows keys s props (take i ns) → x.name ≡ n.name → Draws rows new x.slot (at_place (beside s n.place)) → AreProps rows new s (props ++ x ∷ []) (take (i + 1) ns)
+props_more rows keys new s props ns i x n lt is g h named p =
+    subst (AreProps rows new s (props ++ x ∷ [])) (sym (take_more ns i n lt ∙ ap (λ y. take i ns ++ y ∷ []) (sym is)))
+    (zip_push (λ (p : Prop) (n : Named). (p.name ≡ n.name) × Draws rows new p.slot (at_place (beside s n.place))) props (take i ns) x n (props_grow rows keys new s props (take i ns) g h) (named, p))

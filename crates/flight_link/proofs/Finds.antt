@@ -28,7 +28,7 @@ get_drop [] (suc n) = refl
 get_drop (x ∷ xs) zero = refl
 get_drop (x ∷ xs) (suc n) = get_drop xs n
 
-none_before : (rows : List PlacedRow) (n : ℕ) (r : PlacedRow) → IsPlain rows → slice_get rows n ≡ Some r → 0 ≡ length (rows_of r.id (take n rows))
+pub none_before : (rows : List PlacedRow) (n : ℕ) (r : PlacedRow) → IsPlain rows → slice_get rows n ≡ Some r → 0 ≡ length (rows_of r.id (take n rows))
 none_before rows n r plain e =
     let h = held (drop n rows) 0 r (get_drop rows n ∙ e) in
     let w = slice_get_within (rows_of r.id (drop n rows)) h.0 r.tree h.1 in

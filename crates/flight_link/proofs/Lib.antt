@@ -12,3 +12,6 @@ pub mod Finds
 pub mod Defined
 pub mod Drawing
 pub mod Drawn
+pub mod Targets
+pub mod Atoms
+pub mod Valid

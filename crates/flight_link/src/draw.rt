@@ -1,6 +1,8 @@
-ghost use Rattle.std.specs.Prelude.{◌≡◌, ◌<◌, ◌^◌, IfOk, IfSome, OnOk, length, true, Some};
+ghost use Rattle.std.specs.Prelude.{◌≡◌, ◌<◌, ◌^◌, ◌∷◌, [], IfOk, IfSome, OnOk, length, true, Some};
 ghost use Rattle.flight_place.specs.declared.place.Place.TheVariants as place;
+ghost use Rattle.flight_place.specs.Linked as linked;
 ghost use Rattle.flight_place.specs.Linked.{beside as place_beside};
+ghost use Rattle.flight_link.specs.Spots.{IsSpot};
 ghost use Rattle.flight_place.specs.Meaning.{Written, at_place, made_at, action_of};
 ghost use Rattle.flight_link.specs.Nodes.{AreLinked, IsTable, place_in, spot_of};
 ghost use Rattle.flight_link.specs.Numbering.{AreNumbered, Grows};
@@ -65,6 +67,7 @@ impl Table {
     }
 
     /// The node of a key.
+    #[tactic(auto, using(crate::proofs::Drawing::promise_node, crate::proofs::Drawing::same_identity))]
     fn node_of(
         &self,
         states: &[State],
@@ -352,6 +355,20 @@ impl Table {
         Ok(pairs)
     }
 
+    /// The items of an array of two.
+    fn two_at(&self, spot: Spot) -> Option<(u32, u32)>
+        ensures { IfSome result (λ p. place_in self.now.rows.items spot ≡ Some (place.Array (p.0 ∷ p.1 ∷ []))) }
+    {
+        match self.place(spot) {
+            Some(Place::Array(items)) => match items.as_slice() {
+                [key, value] => Some((*key, *value)),
+                _ => None,
+            },
+            _ => None,
+        }
+    }
+
+    #[tactic(auto, using(crate::proofs::Drawing::pair_drawn))]
     fn pair(
         &self,
         states: &[State],
@@ -365,14 +382,11 @@ impl Table {
         ensures grows { OnOk result (Grows numbers.old.keys.items numbers.new.keys.items) }
         ensures pair { IfOk result (λ pair. IsPairAt self.now.rows.items numbers.new.keys.items (spot_of self.now.rows.items spot) pair place) }
     {
-        let Some(Place::Array(items)) = self.place(beside(spot, place)) else {
+        let Some((key, value)) = self.two_at(beside(spot, place)) else {
             return Err(Memory);
         };
-        let [key, value] = items.as_slice() else {
-            return Err(Memory);
-        };
-        let key = self.slot_beside(states, numbers, spot, *key)?;
-        let value = self.slot_beside(states, numbers, spot, *value)?;
+        let key = self.slot_beside(states, numbers, spot, key)?;
+        let value = self.slot_beside(states, numbers, spot, value)?;
         Ok(Pair { key, value })
     }
 
@@ -397,24 +411,34 @@ impl Table {
         }
     }
 
+    /// The key of the node at a place.
+    #[tactic(auto, using(crate::proofs::Drawing::spot_key))]
+    fn key_at(&self, spot: Spot) -> Option<NodeKey>
+        requires { IsTable self.now }
+        ensures { IfSome result (λ key. (s : linked.Spot) → IsSpot self.now.rows.items spot s → made_at s ≡ identity_of key) }
+    {
+        match row_at(self.rows.as_slice(), spot.row as usize) {
+            Some(row) => Some(NodeKey::Made {
+                id: row.id,
+                place: spot.place,
+            }),
+            None => None,
+        }
+    }
+
     /// The slot that leads to a target.
+    #[tactic(auto, using(crate::proofs::Drawing::atom_slot, crate::proofs::Drawing::spot_slot, crate::proofs::Drawing::key_slot))]
     fn slot_to(&self, numbers: &mut Numbers, target: Target<'_>) -> Result<Slot, Memory>
         requires table { IsTable self.now }
         requires numbered { AreNumbered numbers.old }
         ensures numbered { OnOk result (AreNumbered numbers.new) }
         ensures grows { OnOk result (Grows numbers.old.keys.items numbers.new.keys.items) }
-        ensures slot { IfOk result (λ slot. (w : Written) → IsTargetOf self.now.rows.items w target → Draws self.now.rows.items numbers.new.keys.items slot w) }
+        ensures slot { IfOk result (λ slot. (w : Written) → IsTargetOf self.now.rows.items w target.entry → Draws self.now.rows.items numbers.new.keys.items slot w) }
     {
         match target {
             Target::Atom(atom) => Ok(Slot::Atom(atom.copy()?)),
-            Target::Node(spot) => match row_at(self.rows.as_slice(), spot.row as usize) {
-                Some(row) => {
-                    let key = NodeKey::Made {
-                        id: row.id,
-                        place: spot.place,
-                    };
-                    Ok(Slot::Node(numbers.number(key)?))
-                }
+            Target::Node(spot) => match self.key_at(spot) {
+                Some(key) => Ok(Slot::Node(numbers.number(key)?)),
                 None => Err(Memory),
             },
             Target::Promise(id) => Ok(Slot::Node(numbers.number(NodeKey::Promise(id))?)),

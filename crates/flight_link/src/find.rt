@@ -42,7 +42,7 @@ impl Table {
     }
 
     /// The id without a row for which a walk waits. None where walks wait for one another.
-    fn awaited(&self, states: &[State], node: u32) -> Option<u32>
+    pub fn awaited(&self, states: &[State], node: u32) -> Option<u32>
         requires linked { AreLinked self.now states.now }
         requires node { HasNode self.now.starts.items node }
         requires waits { has_ended states.now node ≡ false }

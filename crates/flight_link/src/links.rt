@@ -1,4 +1,7 @@
-ghost use Rattle.std.specs.Prelude.{◌≡◌, ◌≢◌, ◌++◌, ◌∷◌, [], ◌<◌, ◌^◌, ◌↔◌, IsTrue, OnOk, OnErr};
+ghost use Rattle.std.specs.Prelude.{◌≡◌, ◌≢◌, ◌++◌, ◌∷◌, [], ◌<◌, ◌^◌, ◌↔◌, IsTrue, IfOk, OnOk, OnErr};
+ghost use Rattle.flight_value.specs.Graph.{IsValid};
+ghost use Rattle.flight_value.specs.Store.{DrawOneGraph, of_graph};
+ghost use Rattle.flight_place.specs.Meaning.{meaning};
 ghost use Rattle.flight_place.specs.Linked.{rows_of, FollowOn};
 ghost use Rattle.flight_place.specs.Good.{IsLeastUndefined};
 ghost use Rattle.flight_link.specs.declared.fault.LinkKind.{LinkKind};
@@ -12,6 +15,7 @@ use crate::table::Table;
 use flight_place::{PlaceTree, PlacedRow};
 use flight_row::RowKind;
 use flight_text::Ref;
+use flight_value::{Graph, List, Memory};
 use std::alloc::Global;
 use std::collections::HashMap;
 use std::marker::Model;
@@ -73,6 +77,18 @@ impl Links {
         ensures { IsLeastUndefined self.now result }
     {
         self.table.least_undefined(self.states.as_slice())
+    }
+
+    /// What the rows mean, as a graph: the nodes to which the value of row 0 leads (React 19.0, `getRoot` of
+    /// ReactFlightClient). What is not there yet, and what leads nowhere, is pending.
+    pub fn graph(&self, alloc: Global) -> Result<Graph, Memory>
+        ensures { IfOk result (λ g. IsValid g × DrawOneGraph (of_graph g) (meaning self.now)) }
+    {
+        let drawing = self.table.draw(self.states.as_slice(), alloc)?;
+        Ok(Graph {
+            root: drawing.root,
+            nodes: List::new(drawing.nodes),
+        })
     }
 
     /// A fact alone: no row was refused.

@@ -98,7 +98,7 @@ impl Table {
     }
 
     /// Whether at a place stand the entries of a Map, or a failure.
-    fn is_map_at(&self, spot: Spot) -> bool
+    pub fn is_map_at(&self, spot: Spot) -> bool
         requires { IsTable self.now }
         ensures { result ≡ token_at map_token self.now.rows.items spot }
     {
@@ -110,7 +110,7 @@ impl Table {
     }
 
     /// Whether at a place stand the items of a Set, or a failure.
-    fn is_set_at(&self, spot: Spot) -> bool
+    pub fn is_set_at(&self, spot: Spot) -> bool
         ensures { result ≡ token_at set_token self.now.rows.items spot }
     {
         match self.place(spot) {

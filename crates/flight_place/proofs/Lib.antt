@@ -13,3 +13,4 @@ mod Worked
 pub mod Settled
 pub mod Undefined
 pub mod Rooted
+pub mod Told

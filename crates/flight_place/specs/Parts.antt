@@ -1,5 +1,6 @@
 -- The parts of a place.
-use Rattle.std.specs.Prelude.{ℕ, ◌<◌, map, All}
+use Rattle.std.specs.Prelude.{ℕ, ◌<◌, ◌≢◌, map, All}
+use Rattle.flight_value.specs.declared.graph.Atom.TheVariants as atom
 use Rattle.flight_value.specs.Graph.{Ascend}
 use Rattle.flight_place.specs.declared.place.Place.{Place}
 use Rattle.flight_place.specs.declared.place.Place.TheVariants as place
@@ -15,3 +16,8 @@ IsWithin total at = Unit {0}
 abbrev pub HasOrder : Place → Type 0
 HasOrder (place.Object props) = Ascend (map (λ p. p.name) props)
 HasOrder at = Unit {0}
+
+-- of an atom something is known
+abbrev pub IsTold : Place → Type 0
+IsTold (place.Atom a) = a ≢ atom.Pending
+IsTold at = Unit {0}
