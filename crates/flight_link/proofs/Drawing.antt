@@ -33,6 +33,8 @@ use Rattle.flight_link.specs.Drawing.{identity_of, Draws, AreSlots, AreProps, Is
 use Rattle.flight_link.proofs.PlainRows.{place_there}
 use Rattle.flight_link.proofs.Growing.{push_get, push_at}
 use Rattle.flight_link.proofs.Finds.{none_before}
+use Rattle.flight_link.specs.declared.target.Target.{Target}
+use Rattle.flight_link.specs.Targets.{IsTargetOf}
 use Rattle.flight_value.specs.declared.graph.Atom.{Atom}
 use Rattle.flight_value.specs.declared.graph.Atom.TheVariants as atom
 use Rattle.std.proofs.lemmas.List.{take_more}
@@ -376,3 +378,6 @@ pub props_more : (rows : List PlacedRow) (keys new : List NodeKey) (s : linked.S
 props_more rows keys new s props ns i x n lt is g h named p =
     subst (AreProps rows new s (props ++ x ∷ [])) (sym (take_more ns i n lt ∙ ap (λ y. take i ns ++ y ∷ []) (sym is)))
     (zip_push (λ (p : Prop) (n : Named). (p.name ≡ n.name) × Draws rows new p.slot (at_place (beside s n.place))) props (take i ns) x n (props_grow rows keys new s props (take i ns) g h) (named, p))
+
+pub beside_slot : (rows : List PlacedRow) (keys : List NodeKey) (s at : Spot) (n : ℕ) (x : Slot) (t : Target) → at ≡ record { row = s.row; place = n } → ((w : Written) → IsTargetOf rows w t → Draws rows keys x w) → IsTargetOf rows (at_place (spot_of rows at)) t → Draws rows keys x (at_place (beside (spot_of rows s) n))
+beside_slot rows keys s at n x t is f h = f (at_place (beside (spot_of rows s) n)) (subst (λ a. IsTargetOf rows (at_place (spot_of rows a)) t) is h)

@@ -11,7 +11,8 @@ use Rattle.flight_value.specs.Graph.{slots_of}
 use Rattle.flight_value.specs.Store as store
 use Rattle.flight_value.specs.Store.{Shape, SlotsFit, NodesFit, Fits, Paired, shape_of, of_graph}
 use Rattle.flight_place.specs.declared.place.PlacedRow.{PlacedRow}
-use Rattle.flight_place.specs.Meaning.{Written, value_of, Identity, HasShape, meaning}
+use Rattle.flight_place.specs.Meaning.{Written, value_of, Identity, made_at, promise_of, action_of, HasShape, meaning}
+use Rattle.flight_place.specs.Linked as linked
 use Rattle.flight_link.specs.declared.key.NodeKey.{NodeKey}
 use Rattle.flight_link.specs.declared.key.NodeKey.TheVariants.{Made, Promise, Action}
 use Rattle.flight_link.specs.Drawing.{identity_of, numbered_from, Draws, DrawsNode, AreDrawn, AreApart}
@@ -57,16 +58,34 @@ pair_there keys n key e =
     let h = there_at 0 keys n key (n, identity_of key) e in
     (n, h.0, h.1 ∙ ap (λ m. (m, identity_of key)) (omega arith))
 
+same_place : (a b : linked.Spot) → made_at a ≡ made_at b → a ≡ b
+same_place a b e = cc
+
+same_promise : (i j : ℕ) → promise_of i ≡ promise_of j → i ≡ j
+same_promise i j e = cc
+
+same_action : (i j : ℕ) → action_of i ≡ action_of j → i ≡ j
+same_action i j e = cc
+
+place_or_promise : (s : linked.Spot) (j : ℕ) → made_at s ≡ promise_of j → ⊥
+place_or_promise s j e = cc
+
+place_or_action : (s : linked.Spot) (j : ℕ) → made_at s ≡ action_of j → ⊥
+place_or_action s j e = cc
+
+promise_or_action : (i j : ℕ) → promise_of i ≡ action_of j → ⊥
+promise_or_action i j e = cc
+
 one_key : (a b : NodeKey) → identity_of a ≡ identity_of b → a ≡ b
-one_key (Made i m) (Made j n) e = cc
-one_key (Promise i) (Promise j) e = cc
-one_key (Action i) (Action j) e = cc
-one_key (Made i m) (Promise j) e = cc
-one_key (Made i m) (Action j) e = cc
-one_key (Promise i) (Made j n) e = cc
-one_key (Promise i) (Action j) e = cc
-one_key (Action i) (Made j n) e = cc
-one_key (Action i) (Promise j) e = cc
+one_key (Made i m) (Made j n) e = ap (λ (s : linked.Spot). Made s.id s.at) (same_place (record { id = i; nth = 0; at = m }) (record { id = j; nth = 0; at = n }) e)
+one_key (Promise i) (Promise j) e = ap Promise (same_promise i j e)
+one_key (Action i) (Action j) e = ap Action (same_action i j e)
+one_key (Made i m) (Promise j) e = absurd (place_or_promise (record { id = i; nth = 0; at = m }) j e)
+one_key (Made i m) (Action j) e = absurd (place_or_action (record { id = i; nth = 0; at = m }) j e)
+one_key (Promise i) (Made j n) e = absurd (place_or_promise (record { id = j; nth = 0; at = n }) i (sym e))
+one_key (Promise i) (Action j) e = absurd (promise_or_action i j e)
+one_key (Action i) (Made j n) e = absurd (place_or_action (record { id = j; nth = 0; at = n }) i (sym e))
+one_key (Action i) (Promise j) e = absurd (promise_or_action j i (sym e))
 
 -- ---- the pairs fit
 

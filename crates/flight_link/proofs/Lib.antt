@@ -13,5 +13,5 @@ pub mod Defined
 pub mod Drawing
 pub mod Drawn
 pub mod Targets
-pub mod Atoms
 pub mod Valid
+pub mod Actions

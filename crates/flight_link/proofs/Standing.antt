@@ -11,7 +11,7 @@ use Rattle.flight_place.proofs.Within.{tree_within}
 use Rattle.flight_place.proofs.Rooted.{IsOfStream, tree_root}
 use Rattle.flight_place.proofs.Told.{tree_told}
 use Rattle.flight_place.proofs.Ordered.{tree_ordered}
-use Rattle.flight_link.proofs.Atoms.{tree_valid}
+use Rattle.flight_place.proofs.Atoms.{tree_valid}
 use Rattle.flight_link.specs.Adding.{IsPlaced, is_of_stream, HasVerdict, MayFollow, IsRefused}
 use Rattle.flight_link.specs.declared.fault.LinkKind.{LinkKind}
 use Rattle.flight_link.specs.declared.fault.LinkKind.TheVariants as kind

@@ -1,5 +1,5 @@
 -- The graph that was drawn is valid.
-use Rattle.std.proofs.Common.{◌≡◌, ◌≢◌, ℕ, zero, suc, ◌+◌, ◌<◌, ◌≤◌, ◌^◌, codes, List, [], ◌∷◌, length, map, Bool, true, false, Option, Some, None, option_and_then, slice_get, refl, sym, ◌∙◌, ap, subst, arith, inl, inr, ◌⊎◌, All}
+use Rattle.std.proofs.Common.{get_or, ◌≡◌, ◌≢◌, ℕ, zero, suc, ◌+◌, ◌<◌, ◌≤◌, ◌^◌, codes, List, [], ◌∷◌, length, map, Bool, true, false, Option, Some, None, option_and_then, slice_get, refl, sym, ◌∙◌, ap, subst, arith, inl, inr, ◌⊎◌, All}
 use Rattle.std.specs.Prelude.{is_some, if◌then◌else◌}
 use Rattle.std.specs.List.{AllZip, AllByRecursion}
 use Rattle.std.proofs.lemmas.Option.{none-some, same_Some, slice_get_within, get_or_from_slice_get, slice_get-get_or}
@@ -13,8 +13,9 @@ use Rattle.flight_value.specs.declared.graph.Node.TheVariants as node
 use Rattle.flight_value.specs.declared.graph.Graph.{Graph}
 use Rattle.flight_value.specs.Graph.{slots_of, Ascend, IsValidAtom, IsValidSlot, IsPromise, IsBound, IsValidKind, IsValidNode, IsValid}
 use Rattle.flight_value.specs.Store as store
-use Rattle.flight_value.specs.Store.{Label, Shape, Target, label_of}
+use Rattle.flight_value.specs.Store.{Label, Shape, Target, label_of, of_graph, DrawOneGraph}
 use Rattle.flight_row.specs.declared.row.RowKind.{RowKind}
+use Rattle.flight_text.specs.declared.mark.Ref.{Ref}
 use Rattle.flight_row.specs.declared.row.RowKind.TheVariants as row
 use Rattle.flight_place.specs.declared.place.Place.{Place}
 use Rattle.flight_place.specs.declared.place.Place.TheVariants as place
@@ -22,7 +23,7 @@ use Rattle.flight_place.specs.declared.place.PlaceTree.{PlaceTree}
 use Rattle.flight_place.specs.declared.place.PlacedRow.{PlacedRow}
 use Rattle.flight_place.specs.Linked as linked
 use Rattle.flight_place.specs.Linked.{rows_of, place_at, beside, first_place}
-use Rattle.flight_place.specs.Parts.{HasOrder}
+use Rattle.flight_place.specs.Parts.{HasOrder, HasValidAtom}
 use Rattle.flight_place.specs.Resolve.{property, here, Found, found, stream, not_yet, nowhere, Ends}
 use Rattle.flight_place.specs.Meaning as meaning
 use Rattle.flight_place.specs.Meaning.{Written, at_place, value_of, Identity, made_at, promise_of, stream_of, action_of, Token, Reference, text_at, bound_at, reference_with, reference_in, reference_by, reference_of, there, Flowed, opened, flowed, stream_shape, action_shape, HasShapeHere, HasShape, pending, TokenLeads, LeadsHere, IsTarget, Leads}
@@ -30,10 +31,11 @@ use Rattle.flight_place.proofs.Walking.{turn_ends, stop_turn}
 use Rattle.flight_place.proofs.OneMeaning.{leads_once}
 use Rattle.flight_link.specs.declared.key.NodeKey.{NodeKey}
 use Rattle.flight_link.specs.declared.key.NodeKey.TheVariants.{Made, Promise, Action}
-use Rattle.flight_link.specs.Nodes.{IsFine, HasValidAtom}
-use Rattle.flight_link.specs.Drawing.{identity_of, Draws, DrawsNode, AreDrawn}
+use Rattle.flight_link.specs.Nodes.{IsFine}
+use Rattle.flight_link.specs.declared.draw.Drawing.{Drawing}
+use Rattle.flight_link.specs.Drawing.{identity_of, numbered_from, Draws, DrawsNode, AreDrawn, IsDrawing}
 use Rattle.flight_link.proofs.PlainRows.{row_of_tree}
-use Rattle.flight_link.proofs.Drawn.{node_of_key}
+use Rattle.flight_link.proofs.Drawn.{node_of_key, graph_fits}
 
 -- ---- what holds of all places
 
@@ -56,13 +58,16 @@ fine_place rows s at fine e = go (slice_get (rows_of s.id rows) s.nth) refl e
 atom_or_node : {K : Type 0} (a : Atom) (k : K) → store.atom a ≡ store.node_at k → ⊥
 atom_or_node a k e = cc
 
-atom_valid : (a b : Atom) → store.atom {Identity} a ≡ store.atom b → IsValidAtom b → IsValidAtom a
+abbrev atom_at : Atom → Target Identity
+atom_at a = store.atom a
+
+atom_valid : (a b : Atom) → atom_at a ≡ atom_at b → IsValidAtom b → IsValidAtom a
 atom_valid a b e h = subst IsValidAtom (sym (same a b e)) h
   where
-    same : (a b : Atom) → store.atom {Identity} a ≡ store.atom b → a ≡ b
+    same : (a b : Atom) → atom_at a ≡ atom_at b → a ≡ b
     same a b e = cc
 
-token_valid : (rows : List PlacedRow) (token : Token) (s : linked.Spot) (r : _) (a : Atom) → TokenLeads rows token s r (store.atom a) → IsValidAtom a
+token_valid : (rows : List PlacedRow) (token : Token) (s : linked.Spot) (r : Ref) (a : Atom) → TokenLeads rows token s r (store.atom a) → IsValidAtom a
 token_valid rows token s r a (inl h) = absurd (atom_or_node a (made_at s) h.2)
 token_valid rows token s r a (inr (inl h)) = atom_valid a (atom.Failed h.0) h.2 tt
 token_valid rows token s r a (inr (inr h)) = atom_valid a atom.Pending h.2 tt
@@ -255,10 +260,10 @@ leads_bound : (rows : List PlacedRow) (s : linked.Spot) → BoundAt rows s → L
 leads_bound rows s (inl e) = inl (inl (found s, turn_ends rows (here s []) (found s) (stop_turn rows s (place.Atom atom.Null, e, tt)), subst (λ o. LeadsHere rows s o (store.atom atom.Null)) (sym e) refl))
 leads_bound rows s (inr h) = inr (h.0, inl (found s, turn_ends rows (here s []) (found s) (stop_turn rows s (place.Promise h.0, h.1, tt)), subst (λ o. LeadsHere rows s o (store.node_at (promise_of h.0))) (sym h.1) refl))
 
-is_null : (nodes : List Node) (a : Atom) → store.atom {Identity} a ≡ store.atom atom.Null → IsBound nodes (slot.Atom a)
+is_null : (nodes : List Node) (a : Atom) → atom_at a ≡ atom_at atom.Null → IsBound nodes (slot.Atom a)
 is_null nodes a e = subst (λ b. IsBound nodes (slot.Atom b)) (sym (same a e)) tt
   where
-    same : (a : Atom) → store.atom {Identity} a ≡ store.atom atom.Null → a ≡ atom.Null
+    same : (a : Atom) → atom_at a ≡ atom_at atom.Null → a ≡ atom.Null
     same a e = cc
 
 promise_label : (x : Node) → label_of x ≡ store.promise → IsPromise (Some x)
@@ -271,7 +276,7 @@ promise_label (node.Element a b c) e = cc
 promise_label (node.Stream flow items end) e = cc
 promise_label (node.Action id bound) e = cc
 
-is_promise : (rows : List PlacedRow) (keys : List NodeKey) (nodes : List Node) (n id : ℕ) (key : NodeKey) → AreDrawn rows keys nodes → slice_get keys n ≡ Some key → store.node_at {Identity} (identity_of key) ≡ store.node_at (promise_of id) → IsPromise (slice_get nodes n)
+is_promise : (rows : List PlacedRow) (keys : List NodeKey) (nodes : List Node) (n id : ℕ) (key : NodeKey) → AreDrawn rows keys nodes → slice_get keys n ≡ Some key → store.node_at (identity_of key) ≡ store.node_at (promise_of id) → IsPromise (slice_get nodes n)
 is_promise rows keys nodes n id key drawn at e =
     let x = node_of_key keys nodes n key drawn.all at in
     let d = drawn.each n x.0 x.1 in
@@ -323,6 +328,13 @@ graph_valid rows keys root nodes fine few at drawn = record {
   valid_root = slot_valid rows keys (length nodes) root (value_of 0) fine drawn.all at;
   each = λ i d lt.
       let e = slice_get-get_or nodes i d lt in
-      let w = drawn.each i _ e in
-      node_valid rows keys nodes (identity_of w.0) _ fine drawn w.2;
+      let w = drawn.each i (get_or nodes i d) e in
+      node_valid rows keys nodes (identity_of w.0) (get_or nodes i d) fine drawn w.2;
 }
+
+-- ---- the whole
+
+pub drawing_right : (rows : List PlacedRow) (d : Drawing) (nodes : List Node) → All IsFine rows → IsDrawing rows d → nodes ≡ d.nodes.items → IsValid (record { root = d.root; nodes = nodes }) × DrawOneGraph (of_graph (record { root = d.root; nodes = nodes })) (meaning.meaning rows)
+drawing_right rows d nodes fine h e =
+    let whole : List Node → Type 0 = λ xs. IsValid (record { root = d.root; nodes = xs }) × DrawOneGraph (of_graph (record { root = d.root; nodes = xs })) (meaning.meaning rows) in
+    subst whole (sym e) (graph_valid rows d.keys.items d.root d.nodes.items fine h.few h.root h.drawn, (numbered_from 0 d.keys.items, graph_fits rows d.keys.items d.root d.nodes.items h.root h.drawn h.apart))

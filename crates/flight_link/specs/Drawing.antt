@@ -1,5 +1,5 @@
 -- A graph on its way, under keys of nodes.
-use Rattle.std.specs.Prelude.{ℕ, ◌+◌, ◌<◌, ◌≤◌, ◌^◌, ◌≡◌, List, [], ◌∷◌, length, slice_get, Option, Some, All}
+use Rattle.std.specs.Prelude.{ℕ, suc, ◌<◌, ◌≤◌, ◌^◌, ◌≡◌, List, [], ◌∷◌, length, slice_get, Option, Some, All}
 use Rattle.std.specs.List.{AllZip}
 use Rattle.flight_value.specs.Graph.{slots_of}
 use Rattle.flight_value.specs.declared.graph.Slot.{Slot}
@@ -69,4 +69,4 @@ pub record IsDrawing (rows : List PlacedRow) (d : Drawing) : Type 0 where
 -- numbers from i on, with what their keys stand for
 abbrev pub numbered_from : ℕ → List NodeKey → List (ℕ × Identity)
 numbered_from i [] = []
-numbered_from i (key ∷ keys) = (i, identity_of key) ∷ numbered_from (i + 1) keys
+numbered_from i (key ∷ keys) = (i, identity_of key) ∷ numbered_from (suc i) keys

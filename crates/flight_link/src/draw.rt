@@ -3,7 +3,9 @@ ghost use Rattle.flight_place.specs.declared.place.Place.TheVariants as place;
 ghost use Rattle.flight_place.specs.Linked as linked;
 ghost use Rattle.flight_place.specs.Linked.{beside as place_beside};
 ghost use Rattle.flight_link.specs.Spots.{IsSpot};
-ghost use Rattle.flight_place.specs.Meaning.{Written, at_place, made_at, action_of};
+ghost use Rattle.flight_value.specs.Graph.{IsValid};
+ghost use Rattle.flight_value.specs.Store.{DrawOneGraph, of_graph};
+ghost use Rattle.flight_place.specs.Meaning.{meaning, Written, at_place, made_at, action_of};
 ghost use Rattle.flight_link.specs.Nodes.{AreLinked, IsTable, place_in, spot_of};
 ghost use Rattle.flight_link.specs.Numbering.{AreNumbered, Grows};
 ghost use Rattle.flight_link.specs.Targets.{IsTargetOf};
@@ -18,7 +20,7 @@ use crate::table::{Table, row_at};
 use crate::target::Target;
 use flight_place::{Named, Place};
 use flight_text::Ref;
-use flight_value::{Atom, List, Memory, Node, Pair, Prop, Slot};
+use flight_value::{Atom, Graph, List, Memory, Node, Pair, Prop, Slot};
 use std::alloc::Global;
 
 /// The graph that rows draw, with the key of each node.
@@ -30,6 +32,18 @@ pub struct Drawing {
 }
 
 impl Table {
+    /// What the rows mean, as a graph.
+    pub fn graph(&self, states: &[State], alloc: Global) -> Result<Graph, Memory>
+        requires { AreLinked self.now states.now }
+        ensures { IfOk result (λ g. IsValid g × DrawOneGraph (of_graph g) (meaning self.now.rows.items)) }
+    {
+        let drawing = self.draw(states, alloc)?;
+        Ok(Graph {
+            root: drawing.root,
+            nodes: List::new(drawing.nodes),
+        })
+    }
+
     /// The graph of the nodes to which the value of row 0 leads.
     pub fn draw(&self, states: &[State], alloc: Global) -> Result<Drawing, Memory>
         requires { AreLinked self.now states.now }
@@ -44,6 +58,7 @@ impl Table {
     }
 
     /// The nodes of the keys, and of those that they name in turn.
+    #[tactic(auto, using(crate::proofs::Drawing::drawn_all))]
     fn nodes(
         &self,
         states: &[State],
@@ -255,6 +270,7 @@ impl Table {
     }
 
     /// The server reference that the row of an id describes. No key names one that has none.
+    #[tactic(auto, using(crate::proofs::Actions::action_node))]
     fn action(&self, states: &[State], numbers: &mut Numbers, id: u32) -> Result<Node, Memory>
         requires linked { AreLinked self.now states.now }
         requires numbered { AreNumbered numbers.old }
@@ -368,7 +384,6 @@ impl Table {
         }
     }
 
-    #[tactic(auto, using(crate::proofs::Drawing::pair_drawn))]
     fn pair(
         &self,
         states: &[State],
@@ -405,14 +420,14 @@ impl Table {
         ensures slot { IfOk result (λ slot. Draws self.now.rows.items numbers.new.keys.items slot (at_place (place_beside (spot_of self.now.rows.items spot) place))) }
     {
         let at = beside(spot, place);
-        match self.place(at) {
-            Some(_) => self.slot_to(numbers, self.target_at(states, at)),
-            None => Err(Memory),
-        }
+        let Some(_) = self.place(at) else {
+            return Err(Memory);
+        };
+        let slot = self.slot_to(numbers, self.target_at(states, at))?;
+        Ok(slot)
     }
 
     /// The key of the node at a place.
-    #[tactic(auto, using(crate::proofs::Drawing::spot_key))]
     fn key_at(&self, spot: Spot) -> Option<NodeKey>
         requires { IsTable self.now }
         ensures { IfSome result (λ key. (s : linked.Spot) → IsSpot self.now.rows.items spot s → made_at s ≡ identity_of key) }
@@ -427,7 +442,6 @@ impl Table {
     }
 
     /// The slot that leads to a target.
-    #[tactic(auto, using(crate::proofs::Drawing::atom_slot, crate::proofs::Drawing::spot_slot, crate::proofs::Drawing::key_slot))]
     fn slot_to(&self, numbers: &mut Numbers, target: Target<'_>) -> Result<Slot, Memory>
         requires table { IsTable self.now }
         requires numbered { AreNumbered numbers.old }

@@ -15,7 +15,7 @@ use crate::table::Table;
 use flight_place::{PlaceTree, PlacedRow};
 use flight_row::RowKind;
 use flight_text::Ref;
-use flight_value::{Graph, List, Memory};
+use flight_value::{Graph, Memory};
 use std::alloc::Global;
 use std::collections::HashMap;
 use std::marker::Model;
@@ -84,11 +84,7 @@ impl Links {
     pub fn graph(&self, alloc: Global) -> Result<Graph, Memory>
         ensures { IfOk result (λ g. IsValid g × DrawOneGraph (of_graph g) (meaning self.now)) }
     {
-        let drawing = self.table.draw(self.states.as_slice(), alloc)?;
-        Ok(Graph {
-            root: drawing.root,
-            nodes: List::new(drawing.nodes),
-        })
+        self.table.graph(self.states.as_slice(), alloc)
     }
 
     /// A fact alone: no row was refused.

@@ -14,3 +14,4 @@ pub mod Settled
 pub mod Undefined
 pub mod Rooted
 pub mod Told
+pub mod Atoms

@@ -27,7 +27,7 @@ use Rattle.flight_place.specs.declared.fault.PlaceKind.TheVariants.{BadModel, Nu
 use Rattle.flight_place.specs.Tokens.{place_of}
 use Rattle.flight_place.specs.Places.{Visit, placed, token, faulty, number_visit, is_marked, is_element, element_of, mark_visit, count, item_numbers, member_numbers, visits, element_visits, item_visits, member_visits, HasPlace, HavePlaces}
 use Rattle.flight_place.specs.Rows.{model_visits, digest_of, import_visit, failed_visit, row_visits, IsTree}
-use Rattle.flight_link.specs.Nodes.{HasValidAtom}
+use Rattle.flight_place.specs.Parts.{HasValidAtom}
 
 abbrev VisitValid : Visit → Type 0
 VisitValid (placed at) = HasValidAtom at
