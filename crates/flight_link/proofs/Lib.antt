@@ -16,3 +16,7 @@ pub mod Targets
 pub mod Slots
 pub mod Marks
 pub mod Sights
+pub mod Drawing
+pub mod Drawn
+pub mod Valid
+pub mod Actions

@@ -10,6 +10,8 @@ use Rattle.flight_place.specs.Linked.{rows_of, goes, refused, absent, defined, t
 use Rattle.flight_place.proofs.Within.{tree_within}
 use Rattle.flight_place.proofs.Rooted.{IsOfStream, tree_root}
 use Rattle.flight_place.proofs.Told.{tree_told}
+use Rattle.flight_place.proofs.Ordered.{tree_ordered}
+use Rattle.flight_place.proofs.Atoms.{tree_valid}
 use Rattle.flight_link.specs.Adding.{IsPlaced, is_of_stream, HasVerdict, MayFollow, IsRefused}
 use Rattle.flight_link.specs.declared.fault.LinkKind.{LinkKind}
 use Rattle.flight_link.specs.declared.fault.LinkKind.TheVariants as kind
@@ -81,4 +83,6 @@ is_fine id t placed e = record {
   within = tree_within placed.0 placed.1.0 t placed.1.2;
   rooted = tree_root placed.0 placed.1.0 t placed.1.2 (not_of_stream t.kind e);
   told = tree_told placed.0 placed.1.0 t placed.1.2;
+  valid = tree_valid placed.0 placed.1.0 t placed.1.2;
+  ordered = tree_ordered placed.0 placed.1.0 t placed.1.2;
 }

@@ -11,3 +11,5 @@ pub mod Backlogs
 pub mod Targets
 pub mod Slots
 pub mod Marks
+pub mod Numbering
+pub mod Drawing

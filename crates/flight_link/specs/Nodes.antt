@@ -7,7 +7,7 @@ use Rattle.flight_place.specs.declared.place.PlaceTree.{PlaceTree}
 use Rattle.flight_place.specs.declared.place.PlacedRow.{PlacedRow}
 use Rattle.flight_place.specs.Linked as linked
 use Rattle.flight_place.specs.Linked.{rows_of, place_at, first_place}
-use Rattle.flight_place.specs.Parts.{IsWithin, IsTold}
+use Rattle.flight_place.specs.Parts.{IsWithin, HasOrder, IsTold, HasValidAtom}
 use Rattle.flight_place.specs.Resolve.{Path, Stand, to, here, found, nowhere, Turn, on, ends, turn}
 use Rattle.flight_link.specs.Adding.{is_of_stream}
 use Rattle.flight_link.specs.declared.found.Spot.{Spot}
@@ -33,11 +33,13 @@ IsPlainOf (t ∷ u ∷ ts) = ⊥
 abbrev pub IsPlain : List PlacedRow → Type 0
 IsPlain rows = (id : ℕ) → IsPlainOf (rows_of id rows)
 
--- numbers in a row lead to its places, it has a root, and its atoms are known
+-- numbers in a row lead to its places, it has a root, and its atoms are known and valid, and names ascend
 pub record IsFine (r : PlacedRow) : Type 0 where
   pub within : All (IsWithin (length r.tree.places)) r.tree.places
   pub rooted : 0 < length r.tree.places
   pub told : All IsTold r.tree.places
+  pub valid : All HasValidAtom r.tree.places
+  pub ordered : All HasOrder r.tree.places
 
 -- what stands at a place, by the number of its row
 abbrev pub place_in : List PlacedRow → Spot → Option Place

@@ -1,5 +1,8 @@
-ghost use Rattle.std.specs.Prelude.{◌≡◌, ◌≢◌, ◌++◌, ◌∷◌, [], ◌<◌, ◌^◌, ◌↔◌, IsTrue, OnOk, OnErr, MatchOption, ◌≤◌, ◌+◌};
+ghost use Rattle.std.specs.Prelude.{◌≡◌, ◌≢◌, ◌++◌, ◌∷◌, [], ◌<◌, ◌^◌, ◌↔◌, IsTrue, IfOk, OnOk, OnErr, MatchOption, ◌≤◌, ◌+◌};
 ghost use Rattle.flight_link.specs.Looking.{IsSeen};
+ghost use Rattle.flight_value.specs.Graph.{IsValid};
+ghost use Rattle.flight_value.specs.Store.{DrawOneGraph, of_graph};
+ghost use Rattle.flight_place.specs.Meaning.{meaning};
 ghost use Rattle.flight_place.specs.Linked.{rows_of, FollowOn};
 ghost use Rattle.flight_place.specs.Good.{IsLeastUndefined};
 ghost use Rattle.flight_link.specs.declared.fault.LinkKind.{LinkKind};
@@ -16,6 +19,7 @@ use crate::table::Table;
 use flight_place::{PlaceTree, PlacedRow};
 use flight_row::RowKind;
 use flight_text::Ref;
+use flight_value::{Graph, Memory};
 use std::alloc::Global;
 use std::collections::HashMap;
 use std::marker::Model;
@@ -101,6 +105,14 @@ impl Links {
             total: self.total,
         };
         self.table.look(self.states.as_slice(), bases, path)
+    }
+
+    /// What the rows mean, as a graph: the nodes to which the value of row 0 leads (React 19.0, `getRoot` of
+    /// ReactFlightClient). What is not there yet, and what leads nowhere, is pending.
+    pub fn graph(&self, alloc: Global) -> Result<Graph, Memory>
+        ensures { IfOk result (λ g. IsValid g × DrawOneGraph (of_graph g) (meaning self.now)) }
+    {
+        self.table.graph(self.states.as_slice(), alloc)
     }
 
     /// A fact alone: no row was refused.

@@ -18,3 +18,4 @@ pub mod Gathering
 pub mod Turns
 pub mod OneByOne
 pub mod Told
+pub mod Atoms

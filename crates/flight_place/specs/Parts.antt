@@ -1,7 +1,7 @@
 -- The parts of a place.
 use Rattle.std.specs.Prelude.{ℕ, ◌<◌, ◌≢◌, map, All}
 use Rattle.flight_value.specs.declared.graph.Atom.TheVariants as atom
-use Rattle.flight_value.specs.Graph.{Ascend}
+use Rattle.flight_value.specs.Graph.{Ascend, IsValidAtom}
 use Rattle.flight_place.specs.declared.place.Place.{Place}
 use Rattle.flight_place.specs.declared.place.Place.TheVariants as place
 
@@ -21,3 +21,8 @@ HasOrder at = Unit {0}
 abbrev pub IsTold : Place → Type 0
 IsTold (place.Atom a) = a ≢ atom.Pending
 IsTold at = Unit {0}
+
+-- the atom may stand in a valid graph
+abbrev pub HasValidAtom : Place → Type 0
+HasValidAtom (place.Atom a) = IsValidAtom a
+HasValidAtom at = Unit {0}

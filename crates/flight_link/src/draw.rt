@@ -1,0 +1,490 @@
+ghost use Rattle.std.specs.Prelude.{◌≡◌, ◌<◌, ◌^◌, ◌∷◌, [], IfOk, IfSome, OnOk, length, true, Some};
+ghost use Rattle.flight_place.specs.declared.place.Place.TheVariants as place;
+ghost use Rattle.flight_place.specs.Linked as linked;
+ghost use Rattle.flight_place.specs.Linked.{beside as place_beside};
+ghost use Rattle.flight_link.specs.Spots.{IsSpot};
+ghost use Rattle.flight_value.specs.Graph.{IsValid};
+ghost use Rattle.flight_value.specs.Store.{DrawOneGraph, of_graph};
+ghost use Rattle.flight_place.specs.Meaning.{meaning, Written, at_place, made_at, action_of};
+ghost use Rattle.flight_link.specs.Nodes.{AreLinked, IsTable, place_in, spot_of};
+ghost use Rattle.flight_link.specs.Numbering.{AreNumbered, Grows};
+ghost use Rattle.flight_link.specs.Targets.{IsTargetOf};
+ghost use Rattle.flight_link.specs.Drawing.{identity_of, Draws, AreSlots, AreProps, IsPairAt, ArePairs, DrawsNode, AreDrawn, IsDrawing};
+
+use crate::found::Spot;
+use crate::key::NodeKey;
+use crate::node::State;
+use crate::numbers::Numbers;
+use crate::step::property_of;
+use crate::table::{Table, row_at};
+use crate::target::Target;
+use flight_place::{Named, Place};
+use flight_text::Ref;
+use flight_value::{Atom, Graph, List, Memory, Node, Pair, Prop, Slot};
+use std::alloc::Global;
+
+/// The graph that rows draw, with the key of each node.
+#[derive(Drop)]
+pub struct Drawing {
+    pub root: Slot,
+    pub nodes: Vec<Node>,
+    pub keys: Vec<NodeKey>,
+}
+
+impl Table {
+    /// What the rows mean, as a graph.
+    pub fn graph(&self, states: &[State], alloc: Global) -> Result<Graph, Memory>
+        requires { AreLinked self.now states.now }
+        ensures { IfOk result (λ g. IsValid g × DrawOneGraph (of_graph g) (meaning self.now.rows.items)) }
+    {
+        let drawing = self.draw(states, alloc)?;
+        Ok(Graph {
+            root: drawing.root,
+            nodes: List::new(drawing.nodes),
+        })
+    }
+
+    /// The graph of the nodes to which the value of row 0 leads.
+    pub fn draw(&self, states: &[State], alloc: Global) -> Result<Drawing, Memory>
+        requires { AreLinked self.now states.now }
+        ensures { IfOk result (IsDrawing self.now.rows.items) }
+    {
+        let mut numbers = Numbers::new(alloc);
+        let root = self.slot_to(&mut numbers, self.target_of(states, 0))?;
+        let nodes = self.nodes(states, alloc, &mut numbers)?;
+        within(nodes.len())?;
+        let Numbers { keys, .. } = numbers;
+        Ok(Drawing { root, nodes, keys })
+    }
+
+    /// The nodes of the keys, and of those that they name in turn.
+    #[tactic(auto, using(crate::proofs::Drawing::drawn_all))]
+    fn nodes(
+        &self,
+        states: &[State],
+        alloc: Global,
+        numbers: &mut Numbers,
+    ) -> Result<Vec<Node>, Memory>
+        requires linked { AreLinked self.now states.now }
+        requires numbered { AreNumbered numbers.old }
+        ensures numbered { OnOk result (AreNumbered numbers.new) }
+        ensures grows { OnOk result (Grows numbers.old.keys.items numbers.new.keys.items) }
+        ensures drawn { IfOk result (λ nodes. AreDrawn self.now.rows.items numbers.new.keys.items nodes.items) }
+    {
+        let mut nodes = Vec::new(alloc);
+        'nodes: for _ in 0..u32::MAX {
+            let Some(key) = numbers.key(nodes.len()) else {
+                return Ok(nodes);
+            };
+            nodes.push(self.node_of(states, alloc, numbers, key)?)?;
+        }
+        Err(Memory)
+    }
+
+    /// The node of a key.
+    #[tactic(auto, using(crate::proofs::Drawing::promise_node, crate::proofs::Drawing::same_identity))]
+    fn node_of(
+        &self,
+        states: &[State],
+        alloc: Global,
+        numbers: &mut Numbers,
+        key: NodeKey,
+    ) -> Result<Node, Memory>
+        requires linked { AreLinked self.now states.now }
+        requires numbered { AreNumbered numbers.old }
+        ensures numbered { OnOk result (AreNumbered numbers.new) }
+        ensures grows { OnOk result (Grows numbers.old.keys.items numbers.new.keys.items) }
+        ensures node { IfOk result (DrawsNode self.now.rows.items numbers.new.keys.items (identity_of key)) }
+    {
+        match key {
+            NodeKey::Made { id, place } => match self.spot(id, place) {
+                Some(spot) => self.node_at(states, alloc, numbers, spot),
+                None => Err(Memory),
+            },
+            NodeKey::Promise(id) => {
+                let outcome = self.slot_to(numbers, self.target_of(states, id))?;
+                Ok(Node::Promise(outcome))
+            }
+            NodeKey::Action(id) => self.action(states, numbers, id),
+        }
+    }
+
+    /// A place of the row of an id.
+    fn spot(&self, id: u32, place: u32) -> Option<Spot>
+        requires { IsTable self.now }
+        ensures { IfSome result (λ s. made_at (spot_of self.now.rows.items s) ≡ identity_of (NodeKey.Made id place)) }
+    {
+        match self.known.get(&id) {
+            Some(known) => match known.row {
+                Some(row) => Some(Spot { row, place }),
+                None => None,
+            },
+            None => None,
+        }
+    }
+
+    /// The node at a place. No key names a place without one.
+    fn node_at(
+        &self,
+        states: &[State],
+        alloc: Global,
+        numbers: &mut Numbers,
+        spot: Spot,
+    ) -> Result<Node, Memory>
+        requires linked { AreLinked self.now states.now }
+        requires numbered { AreNumbered numbers.old }
+        ensures numbered { OnOk result (AreNumbered numbers.new) }
+        ensures grows { OnOk result (Grows numbers.old.keys.items numbers.new.keys.items) }
+        ensures node { IfOk result (DrawsNode self.now.rows.items numbers.new.keys.items (made_at (spot_of self.now.rows.items spot))) }
+    {
+        match self.place(spot) {
+            Some(Place::Array(places)) => {
+                self.array(states, alloc, numbers, spot, places.as_slice())
+            }
+            Some(Place::Object(props)) => {
+                self.object(states, alloc, numbers, spot, props.as_slice())
+            }
+            Some(Place::Element { tag, key, props }) => {
+                self.element(states, numbers, spot, *tag, *key, *props)
+            }
+            Some(Place::Map(at)) => self.map(states, alloc, numbers, spot, at),
+            Some(Place::Set(at)) => self.set(states, alloc, numbers, spot, at),
+            _ => Err(Memory),
+        }
+    }
+
+    fn array(
+        &self,
+        states: &[State],
+        alloc: Global,
+        numbers: &mut Numbers,
+        spot: Spot,
+        places: &[u32],
+    ) -> Result<Node, Memory>
+        requires linked { AreLinked self.now states.now }
+        requires numbered { AreNumbered numbers.old }
+        requires place { place_in self.now.rows.items spot ≡ Some (place.Array places.now) }
+        ensures numbered { OnOk result (AreNumbered numbers.new) }
+        ensures grows { OnOk result (Grows numbers.old.keys.items numbers.new.keys.items) }
+        ensures node { IfOk result (DrawsNode self.now.rows.items numbers.new.keys.items (made_at (spot_of self.now.rows.items spot))) }
+    {
+        let slots = self.slots(states, alloc, numbers, spot, places)?;
+        within(slots.len())?;
+        Ok(Node::Array(List::new(slots)))
+    }
+
+    fn object(
+        &self,
+        states: &[State],
+        alloc: Global,
+        numbers: &mut Numbers,
+        spot: Spot,
+        named: &[Named],
+    ) -> Result<Node, Memory>
+        requires linked { AreLinked self.now states.now }
+        requires numbered { AreNumbered numbers.old }
+        requires place { place_in self.now.rows.items spot ≡ Some (place.Object named.now) }
+        ensures numbered { OnOk result (AreNumbered numbers.new) }
+        ensures grows { OnOk result (Grows numbers.old.keys.items numbers.new.keys.items) }
+        ensures node { IfOk result (DrawsNode self.now.rows.items numbers.new.keys.items (made_at (spot_of self.now.rows.items spot))) }
+    {
+        let props = self.props(states, alloc, numbers, spot, named)?;
+        within(props.len())?;
+        Ok(Node::Object(List::new(props)))
+    }
+
+    fn element(
+        &self,
+        states: &[State],
+        numbers: &mut Numbers,
+        spot: Spot,
+        tag: u32,
+        key: u32,
+        props: u32,
+    ) -> Result<Node, Memory>
+        requires linked { AreLinked self.now states.now }
+        requires numbered { AreNumbered numbers.old }
+        requires place { place_in self.now.rows.items spot ≡ Some (place.Element tag key props) }
+        ensures numbered { OnOk result (AreNumbered numbers.new) }
+        ensures grows { OnOk result (Grows numbers.old.keys.items numbers.new.keys.items) }
+        ensures node { IfOk result (DrawsNode self.now.rows.items numbers.new.keys.items (made_at (spot_of self.now.rows.items spot))) }
+    {
+        let tag = self.slot_beside(states, numbers, spot, tag)?;
+        let key = self.slot_beside(states, numbers, spot, key)?;
+        let props = self.slot_beside(states, numbers, spot, props)?;
+        Ok(Node::Element { tag, key, props })
+    }
+
+    /// The Map whose entries stand where its reference leads. No key names one without entries.
+    fn map(
+        &self,
+        states: &[State],
+        alloc: Global,
+        numbers: &mut Numbers,
+        spot: Spot,
+        reference: &Ref,
+    ) -> Result<Node, Memory>
+        requires linked { AreLinked self.now states.now }
+        requires numbered { AreNumbered numbers.old }
+        requires place { place_in self.now.rows.items spot ≡ Some (place.Map reference.now) }
+        ensures numbered { OnOk result (AreNumbered numbers.new) }
+        ensures grows { OnOk result (Grows numbers.old.keys.items numbers.new.keys.items) }
+        ensures node { IfOk result (DrawsNode self.now.rows.items numbers.new.keys.items (made_at (spot_of self.now.rows.items spot))) }
+    {
+        let State::Ended(end) = self.resolve(states, reference.id, reference.path.as_slice()) else {
+            return Err(Memory);
+        };
+        let Some(Place::Array(places)) = self.place(end) else {
+            return Err(Memory);
+        };
+        let pairs = self.pairs(states, alloc, numbers, end, places.as_slice())?;
+        within_half(pairs.len())?;
+        Ok(Node::Map(List::new(pairs)))
+    }
+
+    /// The Set whose items stand where its reference leads. No key names one without items.
+    fn set(
+        &self,
+        states: &[State],
+        alloc: Global,
+        numbers: &mut Numbers,
+        spot: Spot,
+        reference: &Ref,
+    ) -> Result<Node, Memory>
+        requires linked { AreLinked self.now states.now }
+        requires numbered { AreNumbered numbers.old }
+        requires place { place_in self.now.rows.items spot ≡ Some (place.Set reference.now) }
+        ensures numbered { OnOk result (AreNumbered numbers.new) }
+        ensures grows { OnOk result (Grows numbers.old.keys.items numbers.new.keys.items) }
+        ensures node { IfOk result (DrawsNode self.now.rows.items numbers.new.keys.items (made_at (spot_of self.now.rows.items spot))) }
+    {
+        let State::Ended(end) = self.resolve(states, reference.id, reference.path.as_slice()) else {
+            return Err(Memory);
+        };
+        let Some(Place::Array(places)) = self.place(end) else {
+            return Err(Memory);
+        };
+        let slots = self.slots(states, alloc, numbers, end, places.as_slice())?;
+        within(slots.len())?;
+        Ok(Node::Set(List::new(slots)))
+    }
+
+    /// The server reference that the row of an id describes. No key names one that has none.
+    #[tactic(auto, using(crate::proofs::Actions::action_node))]
+    fn action(&self, states: &[State], numbers: &mut Numbers, id: u32) -> Result<Node, Memory>
+        requires linked { AreLinked self.now states.now }
+        requires numbered { AreNumbered numbers.old }
+        ensures numbered { OnOk result (AreNumbered numbers.new) }
+        ensures grows { OnOk result (Grows numbers.old.keys.items numbers.new.keys.items) }
+        ensures node { IfOk result (DrawsNode self.now.rows.items numbers.new.keys.items (action_of id)) }
+    {
+        if !self.has_reference(id) {
+            return Err(Memory);
+        }
+        let Some(spot) = self.spot(id, 0) else {
+            return Err(Memory);
+        };
+        let Some(Place::Object(props)) = self.place(spot) else {
+            return Err(Memory);
+        };
+        let Some(name) = property_of(props.as_slice(), "id") else {
+            return Err(Memory);
+        };
+        let Some(bound) = property_of(props.as_slice(), "bound") else {
+            return Err(Memory);
+        };
+        let Some(Place::Atom(Atom::Text(text))) = self.place(beside(spot, name)) else {
+            return Err(Memory);
+        };
+        let bound = self.slot_beside(states, numbers, spot, bound)?;
+        Ok(Node::Action {
+            id: text.clone()?,
+            bound,
+        })
+    }
+
+    /// Slots of places of a row.
+    fn slots(
+        &self,
+        states: &[State],
+        alloc: Global,
+        numbers: &mut Numbers,
+        spot: Spot,
+        places: &[u32],
+    ) -> Result<Vec<Slot>, Memory>
+        requires linked { AreLinked self.now states.now }
+        requires numbered { AreNumbered numbers.old }
+        ensures numbered { OnOk result (AreNumbered numbers.new) }
+        ensures grows { OnOk result (Grows numbers.old.keys.items numbers.new.keys.items) }
+        ensures slots { IfOk result (λ slots. AreSlots self.now.rows.items numbers.new.keys.items (spot_of self.now.rows.items spot) slots.items places.now) }
+    {
+        let mut slots = Vec::new(alloc);
+        for place in places {
+            slots.push(self.slot_beside(states, numbers, spot, *place)?)?;
+        }
+        Ok(slots)
+    }
+
+    /// Properties of places of a row.
+    fn props(
+        &self,
+        states: &[State],
+        alloc: Global,
+        numbers: &mut Numbers,
+        spot: Spot,
+        named: &[Named],
+    ) -> Result<Vec<Prop>, Memory>
+        requires linked { AreLinked self.now states.now }
+        requires numbered { AreNumbered numbers.old }
+        ensures numbered { OnOk result (AreNumbered numbers.new) }
+        ensures grows { OnOk result (Grows numbers.old.keys.items numbers.new.keys.items) }
+        ensures props { IfOk result (λ props. AreProps self.now.rows.items numbers.new.keys.items (spot_of self.now.rows.items spot) props.items named.now) }
+    {
+        let mut props = Vec::new(alloc);
+        for prop in named {
+            let slot = self.slot_beside(states, numbers, spot, prop.place)?;
+            let name = prop.name.clone()?;
+            props.push(Prop { name, slot })?;
+        }
+        Ok(props)
+    }
+
+    /// Entries that stand at places of a row.
+    fn pairs(
+        &self,
+        states: &[State],
+        alloc: Global,
+        numbers: &mut Numbers,
+        spot: Spot,
+        places: &[u32],
+    ) -> Result<Vec<Pair>, Memory>
+        requires linked { AreLinked self.now states.now }
+        requires numbered { AreNumbered numbers.old }
+        ensures numbered { OnOk result (AreNumbered numbers.new) }
+        ensures grows { OnOk result (Grows numbers.old.keys.items numbers.new.keys.items) }
+        ensures pairs { IfOk result (λ pairs. ArePairs self.now.rows.items numbers.new.keys.items (spot_of self.now.rows.items spot) pairs.items places.now) }
+    {
+        let mut pairs = Vec::new(alloc);
+        for place in places {
+            pairs.push(self.pair(states, numbers, spot, *place)?)?;
+        }
+        Ok(pairs)
+    }
+
+    /// The items of an array of two.
+    fn two_at(&self, spot: Spot) -> Option<(u32, u32)>
+        ensures { IfSome result (λ p. place_in self.now.rows.items spot ≡ Some (place.Array (p.0 ∷ p.1 ∷ []))) }
+    {
+        match self.place(spot) {
+            Some(Place::Array(items)) => match items.as_slice() {
+                [key, value] => Some((*key, *value)),
+                _ => None,
+            },
+            _ => None,
+        }
+    }
+
+    fn pair(
+        &self,
+        states: &[State],
+        numbers: &mut Numbers,
+        spot: Spot,
+        place: u32,
+    ) -> Result<Pair, Memory>
+        requires linked { AreLinked self.now states.now }
+        requires numbered { AreNumbered numbers.old }
+        ensures numbered { OnOk result (AreNumbered numbers.new) }
+        ensures grows { OnOk result (Grows numbers.old.keys.items numbers.new.keys.items) }
+        ensures pair { IfOk result (λ pair. IsPairAt self.now.rows.items numbers.new.keys.items (spot_of self.now.rows.items spot) pair place) }
+    {
+        let Some((key, value)) = self.two_at(beside(spot, place)) else {
+            return Err(Memory);
+        };
+        let key = self.slot_beside(states, numbers, spot, key)?;
+        let value = self.slot_beside(states, numbers, spot, value)?;
+        Ok(Pair { key, value })
+    }
+
+    /// The slot that is written at another place of a row. Each number in a row is that of a place.
+    fn slot_beside(
+        &self,
+        states: &[State],
+        numbers: &mut Numbers,
+        spot: Spot,
+        place: u32,
+    ) -> Result<Slot, Memory>
+        requires linked { AreLinked self.now states.now }
+        requires numbered { AreNumbered numbers.old }
+        ensures numbered { OnOk result (AreNumbered numbers.new) }
+        ensures grows { OnOk result (Grows numbers.old.keys.items numbers.new.keys.items) }
+        ensures slot { IfOk result (λ slot. Draws self.now.rows.items numbers.new.keys.items slot (at_place (place_beside (spot_of self.now.rows.items spot) place))) }
+    {
+        let at = beside(spot, place);
+        let Some(_) = self.place(at) else {
+            return Err(Memory);
+        };
+        let slot = self.slot_to(numbers, self.target_at(states, at))?;
+        Ok(slot)
+    }
+
+    /// The key of the node at a place.
+    fn key_at(&self, spot: Spot) -> Option<NodeKey>
+        requires { IsTable self.now }
+        ensures { IfSome result (λ key. (s : linked.Spot) → IsSpot self.now.rows.items spot s → made_at s ≡ identity_of key) }
+    {
+        match row_at(self.rows.as_slice(), spot.row as usize) {
+            Some(row) => Some(NodeKey::Made {
+                id: row.id,
+                place: spot.place,
+            }),
+            None => None,
+        }
+    }
+
+    /// The slot that leads to a target.
+    fn slot_to(&self, numbers: &mut Numbers, target: Target<'_>) -> Result<Slot, Memory>
+        requires table { IsTable self.now }
+        requires numbered { AreNumbered numbers.old }
+        ensures numbered { OnOk result (AreNumbered numbers.new) }
+        ensures grows { OnOk result (Grows numbers.old.keys.items numbers.new.keys.items) }
+        ensures slot { IfOk result (λ slot. (w : Written) → IsTargetOf self.now.rows.items w target.entry → Draws self.now.rows.items numbers.new.keys.items slot w) }
+    {
+        match target {
+            Target::Atom(atom) => Ok(Slot::Atom(atom.copy()?)),
+            Target::Node(spot) => match self.key_at(spot) {
+                Some(key) => Ok(Slot::Node(numbers.number(key)?)),
+                None => Err(Memory),
+            },
+            Target::Promise(id) => Ok(Slot::Node(numbers.number(NodeKey::Promise(id))?)),
+            Target::Action(id) => Ok(Slot::Node(numbers.number(NodeKey::Action(id))?)),
+            Target::Awaits(_) | Target::Lost => Ok(Slot::Atom(Atom::Pending)),
+        }
+    }
+}
+
+/// Another place of a row.
+fn beside(spot: Spot, place: u32) -> Spot
+    ensures { result ≡ record { row = spot.row; place = place } }
+{
+    Spot {
+        row: spot.row,
+        place,
+    }
+}
+
+/// A count of slots that a node may have.
+fn within(count: usize) -> Result<(), Memory>
+    ensures { OnOk result (count < 2 ^ 32) }
+{
+    match u32::try_from(count) {
+        Ok(_) => Ok(()),
+        Err(_) => Err(Memory),
+    }
+}
+
+/// A count of pairs of slots that a node may have.
+fn within_half(count: usize) -> Result<(), Memory>
+    ensures { OnOk result (count < 2 ^ 31) }
+{
+    if count < 1 << 31 { Ok(()) } else { Err(Memory) }
+}
