@@ -23,6 +23,8 @@ mod room;
 mod settle;
 mod step;
 mod table;
+#[cfg(test)]
+mod tests;
 mod undefined;
 
 pub use fault::{LinkFault, LinkKind};
