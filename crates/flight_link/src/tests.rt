@@ -6,14 +6,22 @@ use flight_value::{List, Memory, Text};
 use std::test::Fail;
 
 /// Adds a row to links.
-fn add(rt: &HostRuntime, links: &mut Links, id: u32, kind: RowKind, payload: &str) -> Result<(), LinkFault> {
+fn add(
+    rt: &HostRuntime,
+    links: &mut Links,
+    id: u32,
+    kind: RowKind,
+    payload: &str,
+) -> Result<(), LinkFault> {
     if id >= 1 << 31 {
         return Err(LinkFault::Memory);
     }
     let row = Row {
         id,
         kind,
-        payload: List::new(Vec::from_slice(rt.alloc(), payload.as_bytes()).map_err(|_| LinkFault::Memory)?),
+        payload: List::new(Vec::from_slice(rt.alloc(), payload.as_bytes()).map_err(
+            |_| LinkFault::Memory,
+        )?),
     };
     match places(rt.alloc(), &row, Manner::Wire) {
         Ok(tree) => links.add(id, tree),
@@ -37,15 +45,31 @@ fn tells_the_least_undefined_id(rt: HostRuntime) {
         (&[(0, r#"{"self":"$0"}"#)], None),
         (&[(0, r#""$0""#)], Some(0)),
         (&[(0, r#""$2""#), (2, r#""$0""#)], Some(0)),
-        (&[(1, r#"[["k",{"v":1}]]"#), (0, r#"{"m":"$Q1","again":"$0:m"}"#)], None),
-        (&[(0, r#"{"m":"$Q1","again":"$0:m"}"#), (1, r#"[["k",{"v":1}]]"#)], None),
-        (&[(0, r#"["$L1"]"#), (1, r#""$L2""#), (2, r#""$L1""#)], Some(1)),
+        (
+            &[
+                (1, r#"[["k",{"v":1}]]"#),
+                (0, r#"{"m":"$Q1","again":"$0:m"}"#),
+            ],
+            None,
+        ),
+        (
+            &[
+                (0, r#"{"m":"$Q1","again":"$0:m"}"#),
+                (1, r#"[["k",{"v":1}]]"#),
+            ],
+            None,
+        ),
+        (
+            &[(0, r#"["$L1"]"#), (1, r#""$L2""#), (2, r#""$L1""#)],
+            Some(1),
+        ),
         (&[(0, r#""$@1""#), (1, r#""$@0""#)], None),
         (&[(0, r#"["$3","$L2"]"#)], Some(2)),
         (&[(0, r#""$Q1""#), (1, "[[1,2,3]]")], Some(1)),
     ];
     for (rows, undefined) in cases {
-        let told = matches!(linked(&rt, rows), Ok(links) if links.has_root() && links.undefined() == undefined);
+        let told =
+            matches!(linked(&rt, rows), Ok(links) if links.has_root() && links.undefined() == undefined);
         assert!(rt; told);
     }
 }
@@ -75,8 +99,16 @@ fn follows_references(rt: HostRuntime) {
         (0, &[], Found::At(Spot { row: 0, place: 0 })),
         (0, &["key"], Found::At(Spot { row: 0, place: 3 })),
         (0, &["type"], Found::NotYet { id: 9 }),
-        (0, &["props", "a", "x"], Found::At(Spot { row: 1, place: 1 })),
-        (0, &["props", "a", "x", "0", "far"], Found::At(Spot { row: 2, place: 0 })),
+        (
+            0,
+            &["props", "a", "x"],
+            Found::At(Spot { row: 1, place: 1 }),
+        ),
+        (
+            0,
+            &["props", "a", "x", "0", "far"],
+            Found::At(Spot { row: 2, place: 0 }),
+        ),
         (1, &["x", "00"], Found::Nowhere { id: 1 }),
         (0, &["props", "b"], Found::Nowhere { id: 0 }),
         (7, &["x"], Found::NotYet { id: 7 }),
@@ -93,7 +125,11 @@ fn follows_references(rt: HostRuntime) {
 fn chain(rt: &HostRuntime, count: u32, is_backward: bool) -> Result<bool, LinkFault> {
     let mut links = Links::new(rt.alloc());
     for number in 0..count.saturating_add(1) {
-        let id = if is_backward { count.saturating_sub(number) } else { number };
+        let id = if is_backward {
+            count.saturating_sub(number)
+        } else {
+            number
+        };
         let next = id.saturating_add(1);
         let alias = format!(in rt.alloc(); "\"${next:x}\"").map_err(|_| LinkFault::Memory)?;
         let payload = if id == count { "[]" } else { alias.as_str() };
