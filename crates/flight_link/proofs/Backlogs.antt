@@ -1,17 +1,17 @@
 -- Walks in lists: one is taken out of its list, and one comes into a list or into the queue.
-use Rattle.std.proofs.Common.{◌≡◌, ◌≢◌, ℕ, zero, suc, ◌+◌, ◌<◌, ◌≤◌, true, false, Bool, List, [], ◌∷◌, ◌++◌, length, Option, Some, None, option_and_then, slice_get, slice_set, get_or, refl, sym, ◌∙◌, ap, subst, arith, inl, inr, ◌⊎◌, length-append}
+use Rattle.std.proofs.Common.{◌≡◌, ◌≢◌, ℕ, zero, suc, ◌+◌, ◌<◌, ◌≤◌, true, false, List, [], ◌∷◌, ◌++◌, length, Option, Some, None, option_and_then, slice_get, slice_set, get_or, refl, sym, ◌∙◌, ap, subst, arith, inl, inr, ◌⊎◌, length-append}
 use Rattle.std.specs.Prelude.{sum_by}
 use Rattle.std.proofs.lemmas.Bool.{false≢true}
 use Rattle.std.proofs.lemmas.List.{length-set}
-use Rattle.std.proofs.lemmas.List.Sums.{sum_by-set, sum_by_push}
+use Rattle.std.proofs.lemmas.List.Sums.{sum_by-set}
 use Rattle.std.proofs.lemmas.Option.{none-some, same_Some, slice_get_within, get_or_from_slice_get}
 use Rattle.flight_place.proofs.MoreRows.{slice_get-front}
 use Rattle.flight_link.specs.declared.node.State.{State}
 use Rattle.flight_link.specs.declared.node.State.TheVariants.{Absent, Ended, Lost, Behind}
 use Rattle.flight_link.specs.declared.backlog.Backlog.{Backlog}
-use Rattle.flight_link.specs.Nodes.{is_done, is_ended, has_ended, IsQuiet, AreQuiet}
-use Rattle.flight_link.specs.Backlogs.{cell, IsRun, IsOf, IsQueued, StandsBehind, IsTaken, IsListed, to_come, without, AreListed, IsAtRest, IsPut, Puts, IsTakenFrom, Takes}
-use Rattle.flight_link.proofs.Settling.{set_here, set_there, same_or}
+use Rattle.flight_link.specs.Nodes.{is_done, is_ended, has_ended, IsQuiet}
+use Rattle.flight_link.specs.Backlogs.{cell, IsRun, IsOf, IsQueued, StandsBehind, IsTaken, IsListed, to_come, AreListed, Puts, IsTakenFrom}
+use Rattle.flight_link.proofs.Settling.{set_there, same_or}
 use Rattle.flight_link.proofs.Growing.{push_get, push_at}
 
 -- ---- runs
