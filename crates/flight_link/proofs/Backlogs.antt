@@ -1,17 +1,17 @@
 -- Walks in lists: one is taken out of its list, and one comes into a list or into the queue.
-use Rattle.std.proofs.Common.{◌≡◌, ◌≢◌, ℕ, zero, suc, ◌+◌, ◌<◌, ◌≤◌, true, false, Bool, List, [], ◌∷◌, ◌++◌, length, Option, Some, None, option_and_then, slice_get, slice_set, get_or, refl, sym, ◌∙◌, ap, subst, arith, inl, inr, ◌⊎◌, length-append}
+use Rattle.std.proofs.Common.{◌≡◌, ◌≢◌, ℕ, zero, suc, ◌+◌, ◌<◌, ◌≤◌, true, false, List, [], ◌∷◌, ◌++◌, length, Option, Some, None, option_and_then, slice_get, slice_set, get_or, refl, sym, ◌∙◌, ap, subst, arith, inl, inr, ◌⊎◌, length-append}
 use Rattle.std.specs.Prelude.{sum_by}
 use Rattle.std.proofs.lemmas.Bool.{false≢true}
 use Rattle.std.proofs.lemmas.List.{length-set}
-use Rattle.std.proofs.lemmas.List.Sums.{sum_by-set, sum_by_push}
+use Rattle.std.proofs.lemmas.List.Sums.{sum_by-set}
 use Rattle.std.proofs.lemmas.Option.{none-some, same_Some, slice_get_within, get_or_from_slice_get}
 use Rattle.flight_place.proofs.MoreRows.{slice_get-front}
 use Rattle.flight_link.specs.declared.node.State.{State}
 use Rattle.flight_link.specs.declared.node.State.TheVariants.{Absent, Ended, Lost, Behind}
 use Rattle.flight_link.specs.declared.backlog.Backlog.{Backlog}
-use Rattle.flight_link.specs.Nodes.{is_done, is_ended, has_ended, IsQuiet, AreQuiet}
-use Rattle.flight_link.specs.Backlogs.{cell, IsRun, IsOf, IsQueued, StandsBehind, IsTaken, IsListed, to_come, without, AreListed, IsAtRest, IsPut, Puts, IsTakenFrom, Takes}
-use Rattle.flight_link.proofs.Settling.{set_here, set_there, same_or}
+use Rattle.flight_link.specs.Nodes.{is_done, is_ended, has_ended, IsQuiet}
+use Rattle.flight_link.specs.Backlogs.{cell, IsRun, IsOf, IsQueued, StandsBehind, IsTaken, IsListed, to_come, AreListed, Puts, IsTakenFrom}
+use Rattle.flight_link.proofs.Settling.{set_there, same_or}
 use Rattle.flight_link.proofs.Growing.{push_get, push_at}
 
 -- ---- runs
@@ -90,8 +90,8 @@ keeps_list count n m states new next next' o w not stays l = record {
   run = stays l.nodes l.run (λ i. (l.behind n i).0.1 refl);
   behind = λ k i. let b = l.behind k i in let ne : n ≢ k = λ e. b.0.1 (ap Some e) in ((b.0.0, λ e. none-some k e), behind_stays states n k m new ne b.1);
   each = λ k t b. elim (same_or n k) [
-    inl e ↦ absurd (not b.0 (same_Some new (Behind m b.0) (sym (at_set states n new w) ∙ (ap (slice_get (slice_set states n new)) e ∙ b.1))))
-  | inr ne ↦ l.each k (t.0, λ e. ne (same_Some n k e)) (behind_was states n k m new ne b)
+    | inl e ↦ absurd (not b.0 (same_Some new (Behind m b.0) (sym (at_set states n new w) ∙ (ap (slice_get (slice_set states n new)) e ∙ b.1))))
+    | inr ne ↦ l.each k (t.0, λ e. ne (same_Some n k e)) (behind_was states n k m new ne b)
   ];
 }
 
@@ -101,12 +101,12 @@ more_in_list count n m left states next o w below v l = record {
   nodes = n ∷ l.nodes;
   run = (refl, subst (λ x. IsRun (slice_set next n o) x l.nodes) (sym (cell_here next n o v)) (run_stays next n o o l.nodes l.run (λ i. (l.behind n i).0.1 refl)));
   behind = λ k i. elim i [
-    inl e ↦ ((subst (λ x. x < count) e below, λ p. none-some k p), (left, ap (slice_get (slice_set states n (Behind m left))) (sym e) ∙ at_set states n (Behind m left) w))
-  | inr j ↦ let b = l.behind k j in let ne : n ≢ k = λ e. b.0.1 (ap Some e) in ((b.0.0, λ p. none-some k p), behind_stays states n k m (Behind m left) ne b.1)
+    | inl e ↦ ((subst (λ x. x < count) e below, λ p. none-some k p), (left, ap (slice_get (slice_set states n (Behind m left))) (sym e) ∙ at_set states n (Behind m left) w))
+    | inr j ↦ let b = l.behind k j in let ne : n ≢ k = λ e. b.0.1 (ap Some e) in ((b.0.0, λ p. none-some k p), behind_stays states n k m (Behind m left) ne b.1)
   ];
   each = λ k t b. elim (same_or n k) [
-    inl e ↦ inl e
-  | inr ne ↦ inr (l.each k (t.0, λ e. ne (same_Some n k e)) (behind_was states n k m (Behind m left) ne b))
+    | inl e ↦ inl e
+    | inr ne ↦ inr (l.each k (t.0, λ e. ne (same_Some n k e)) (behind_was states n k m (Behind m left) ne b))
   ];
 }
 
@@ -126,16 +126,16 @@ listed_in count but states next next' m o o' e f l = subst (λ x. IsListed count
 
 put_lists : (count n : ℕ) (states : List State) (new : State) (b c : Backlog) → n < length states → n < count → n < length b.next.items → ((m left : ℕ) → new ≡ Behind m left → m < length b.first.items) → Puts b n new c → ((m : ℕ) → IsListed count (Some n) states b.next.items m (cell b.first.items m)) → (m : ℕ) → IsListed count None (slice_set states n new) c.next.items m (cell c.first.items m)
 put_lists count n states (Behind at left) b c w below v u p l m = elim (same_or at m) [
-    inl e ↦
+  | inl e ↦
       subst (λ x. IsListed count None (slice_set states n (Behind at left)) c.next.items x (cell c.first.items x)) e
       (listed_in count None (slice_set states n (Behind at left)) (slice_set b.next.items n (cell b.first.items at)) c.next.items at (Some n) (cell c.first.items at) p.next_is
       (ap (λ x. cell x at) p.first_is ∙ cell_here b.first.items at (Some n) (u at left refl))
       (more_in_list count n at left states b.next.items (cell b.first.items at) w below v (l at)))
   | inr ne ↦
-    listed_in count None (slice_set states n (Behind at left)) (slice_set b.next.items n (cell b.first.items at)) c.next.items m (cell b.first.items m) (cell c.first.items m) p.next_is
-    (ap (λ x. cell x m) p.first_is ∙ cell_there b.first.items at m (Some n) ne)
-    (keeps_list count n m states (Behind at left) b.next.items (slice_set b.next.items n (cell b.first.items at)) (cell b.first.items m) w (λ k e. ne (same_behind at left m k e)) (λ xs h out. run_stays b.next.items n (cell b.first.items at) (cell b.first.items m) xs h out) (l m))
-  ]
+      listed_in count None (slice_set states n (Behind at left)) (slice_set b.next.items n (cell b.first.items at)) c.next.items m (cell b.first.items m) (cell c.first.items m) p.next_is
+      (ap (λ x. cell x m) p.first_is ∙ cell_there b.first.items at m (Some n) ne)
+      (keeps_list count n m states (Behind at left) b.next.items (slice_set b.next.items n (cell b.first.items at)) (cell b.first.items m) w (λ k e. ne (same_behind at left m k e)) (λ xs h out. run_stays b.next.items n (cell b.first.items at) (cell b.first.items m) xs h out) (l m))
+]
 put_lists count n states (Ended e) b c w below v u p l m =
     listed_in count None (slice_set states n (Ended e)) b.next.items c.next.items m (cell b.first.items m) (cell c.first.items m) p.next_is (ap (λ x. cell x m) p.first_is)
     (keeps_list count n m states (Ended e) b.next.items b.next.items (cell b.first.items m) w (λ k x. cc) (λ xs h out. h) (l m))
@@ -208,9 +208,9 @@ put_listed count n states new b c w below v u stays quiet p are = record {
     queued k m t s e (inl p) d = absurd (its_own m s.0 (same_Some new (Behind m s.0) (sym (at_set states n new w) ∙ (ap (slice_get (slice_set states n new)) p ∙ s.1))) e d)
     queued k m t s e (inr ne) (inl p) = subst (IsQueued c.ended.items) p (on.its (sym here ∙ (ap (has_ended (slice_set states n new)) p ∙ e)))
     queued k m t s e (inr ne) (inr other) = elim (are.loose k m (t.0, λ x. ne (same_Some n k x)) (behind_was states n k m new ne s) (sym (ap is_ended (set_there states n m new other)) ∙ e)) [
-        inl x ↦ absurd (other (same_Some n m x))
+      | inl x ↦ absurd (other (same_Some n m x))
       | inr q ↦ on.old m q
-      ]
+    ]
 
 -- ---- a walk is taken out of a list
 

@@ -1,5 +1,5 @@
 -- Walks go on and are put where they stand, until none is queued.
-use Rattle.std.proofs.Common.{◌≡◌, ◌≢◌, ℕ, zero, suc, ◌+◌, ◌-◌, ◌<◌, ◌≤◌, true, false, Bool, List, [], ◌∷◌, ◌++◌, length, take, Option, Some, None, option_and_then, slice_get, slice_set, get_or, refl, sym, ◌∙◌, ap, subst, arith, inl, inr, ◌⊎◌, length-append}
+use Rattle.std.proofs.Common.{◌≡◌, ◌≢◌, ℕ, zero, suc, ◌+◌, ◌-◌, ◌<◌, ◌≤◌, true, false, Bool, List, [], ◌∷◌, ◌++◌, length, take, Option, Some, None, slice_get, slice_set, get_or, refl, sym, ◌∙◌, ap, subst, arith, inl, inr, ◌⊎◌, length-append}
 use Rattle.std.specs.Prelude.{sum_by}
 use Rattle.std.proofs.lemmas.Bool.{false≢true}
 use Rattle.std.proofs.lemmas.List.{length-set}
@@ -7,7 +7,6 @@ use Rattle.std.proofs.lemmas.List.Sums.{sum_by-set, sum_by-cons, sum_by_push}
 use Rattle.std.proofs.lemmas.Option.{none-some, same_Some, slice_get_within, get_or_from_slice_get}
 use Rattle.flight_place.proofs.MoreRows.{slice_get-front}
 use Rattle.flight_link.specs.declared.fresh.Fresh.{Fresh}
-use Rattle.flight_link.specs.declared.node.Loose.{Loose}
 use Rattle.flight_link.specs.declared.node.Start.{Start}
 use Rattle.flight_link.specs.declared.node.Start.TheVariants.{Id}
 use Rattle.flight_link.specs.declared.node.State.{State}
@@ -19,11 +18,11 @@ use Rattle.flight_place.specs.declared.place.PlacedRow.{PlacedRow}
 use Rattle.flight_place.specs.Resolve.{to}
 use Rattle.flight_link.specs.Growth.{MayCome, root_of}
 use Rattle.flight_link.specs.Nodes.{IsTable}
-use Rattle.flight_link.specs.Nodes.{is_done, is_ended, has_ended, IsQuiet, AreQuiet, AreStates, IsNodeAt, HasNode, IsSound, Moves, steps_left}
-use Rattle.flight_link.specs.Backlogs.{cell, IsRun, IsOf, IsQueued, IsLast, StandsBehind, IsTaken, IsListed, to_come, without, AreListed, AreBegun, IsAtRest, IsPut, Puts, IsTakenFrom, GoesOn, to_do}
-use Rattle.flight_link.proofs.Settling.{set_here, set_there, same_or, states_set}
+use Rattle.flight_link.specs.Nodes.{is_done, is_ended, has_ended, IsQuiet, AreQuiet, AreStates, HasNode, IsSound, Moves, steps_left}
+use Rattle.flight_link.specs.Backlogs.{cell, IsRun, IsOf, IsQueued, IsLast, StandsBehind, IsTaken, IsListed, to_come, AreListed, AreBegun, IsAtRest, Puts, GoesOn, to_do}
+use Rattle.flight_link.proofs.Settling.{set_there, same_or, states_set}
 use Rattle.flight_link.proofs.Growing.{push_get, append_get, get_before, absent_ended, on_there}
-use Rattle.flight_link.proofs.Backlogs.{IsQueuedOn, queued_on, put_listed, behind_stays, behind_was}
+use Rattle.flight_link.proofs.Backlogs.{queued_on, put_listed, behind_stays, behind_was}
 
 -- ---- a walk goes on
 

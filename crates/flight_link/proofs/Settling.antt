@@ -1,11 +1,9 @@
--- Loose walks go on until none is loose.
-use Rattle.std.proofs.Common.{◌≡◌, ◌≢◌, ℕ, zero, suc, ◌<◌, ◌≤◌, true, List, [], ◌∷◌, length, Option, Some, None, slice_get, slice_set, get_or, refl, sym, ◌∙◌, ap, subst, arith, inl, inr, ◌⊎◌}
-use Rattle.std.specs.Prelude.{sum_by}
+-- A loose walk goes on.
+use Rattle.std.proofs.Common.{◌≡◌, ◌≢◌, ℕ, zero, suc, ◌<◌, ◌≤◌, true, List, [], ◌∷◌, length, Option, Some, None, slice_get, slice_set, refl, sym, ◌∙◌, ap, subst, arith, inl, inr, ◌⊎◌}
 use Rattle.std.proofs.lemmas.Bool.{false≢true}
 use Rattle.std.proofs.lemmas.Bool.Decides.{eqb_tells}
 use Rattle.std.proofs.lemmas.List.{length-set}
-use Rattle.std.proofs.lemmas.List.Sums.{sum_by-set}
-use Rattle.std.proofs.lemmas.Option.{none-some, same_Some, slice_get_within, get_or_from_slice_get}
+use Rattle.std.proofs.lemmas.Option.{none-some, same_Some, slice_get_within}
 use Rattle.flight_place.specs.declared.place.PlacedRow.{PlacedRow}
 use Rattle.flight_place.specs.Resolve.{Path}
 use Rattle.flight_link.specs.declared.node.Start.{Start}
@@ -105,17 +103,3 @@ moves t states l all names new are loose is_all is_names leads fewer = λ start 
     let old = ended_there states l.behind loose.ended in
     let less = fewer old.0 old.1 old.2 in
     (begun_sound t.rows.items t.starts.items start new (record { next = b.next; is_next = b.is_next; gets = g' }), subst (λ k. steps_left new ≤ k) len less)
-
--- ---- the whole
-
-pub settles : (t : Table) (states : List State) (l : Loose) (new : State) → AreStates t states → IsLoose states l → Moves t l new → AreStates t (slice_set states l.node new)
-settles t states l new are loose moved = states_set t states l.node (Behind l.behind l.left) new are loose.is_state (λ start is. (moved start is).0)
-
-pub settles_less : (t : Table) (states : List State) (l : Loose) (new : State) → AreStates t states → IsLoose states l → Moves t l new → sum_by steps_left (slice_set states l.node new) < sum_by steps_left states
-settles_less t states l new are loose moved =
-    let start = loose_start t states l are loose in
-    let less = (moved start.0 start.1).1 in
-    let w = slice_get_within states l.node (Behind l.behind l.left) loose.is_state in
-    let e = sum_by-set steps_left states l.node new Lost w in
-    let f : steps_left (get_or states l.node Lost) ≡ suc l.left = ap steps_left (get_or_from_slice_get states l.node (Behind l.behind l.left) Lost loose.is_state) in
-    omega (arith, less, e, f)

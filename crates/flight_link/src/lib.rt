@@ -30,6 +30,8 @@ mod settle;
 mod step;
 mod table;
 mod target;
+#[cfg(test)]
+mod tests;
 mod undefined;
 
 pub use fault::{LinkFault, LinkKind};

@@ -1,4 +1,4 @@
-use Rattle.std.proofs.Common.{ℕ, ◌≡◌, ◌+◌, ◌≤◌, length}
+use Rattle.std.proofs.Common.{ℕ, ◌≡◌, ◌+◌, length}
 use Rattle.flight_link.specs.Backlogs.{cell}
 use Rattle.flight_link.proofs.backlog.reach.Given as goal
 

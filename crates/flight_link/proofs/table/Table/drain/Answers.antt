@@ -1,6 +1,5 @@
-use Rattle.std.proofs.Common.{ℕ, ◌≡◌, ◌<◌, ◌-◌, true, Option, List, length, take, Some, None, sym, ◌∙◌, ap, subst, arith}
-use Rattle.flight_link.specs.Nodes.{has_ended}
-use Rattle.flight_link.specs.Backlogs.{AreListed, StandsBehind}
+use Rattle.std.proofs.Common.{ℕ, ◌<◌, ◌-◌, Option, List, length, take, None, sym, ◌∙◌, ap, subst, arith}
+use Rattle.flight_link.specs.Backlogs.{AreListed}
 use Rattle.flight_link.proofs.Backlogs.{take_listed}
 use Rattle.flight_link.proofs.Hanging.{ended_within, last_queued, leave_listed, drained}
 use Rattle.flight_link.proofs.table.Table.drain.Goals as goal

@@ -1,6 +1,5 @@
-use Rattle.std.proofs.Common.{◌≡◌, ◌≤◌, sym, ap, subst, length, arith}
+use Rattle.std.proofs.Common.{sym, subst, arith}
 use Rattle.flight_link.specs.Nodes.{AreStates}
-use Rattle.flight_link.proofs.Settling.{set_there}
 use Rattle.flight_link.proofs.Hanging.{goes_within, goes_states, goes_listed, goes_fewer}
 use Rattle.flight_link.proofs.table.Table.hang.Goals as goal
 

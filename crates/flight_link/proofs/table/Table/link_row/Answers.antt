@@ -1,4 +1,4 @@
-use Rattle.std.proofs.Common.{◌≡◌, ◌<◌, length, sym, subst, arith, rules}
+use Rattle.std.proofs.Common.{◌≡◌, length, sym, subst, arith, rules}
 use Rattle.std.proofs.lemmas.Option.{slice_get_within}
 use Rattle.flight_link.specs.declared.node.Start.TheVariants.{Id}
 use Rattle.flight_link.specs.Backlogs.{AreBegun}

@@ -1,4 +1,4 @@
-use Rattle.std.proofs.Common.{ℕ, ◌≡◌, ◌≢◌, ◌+◌, ◌<◌, ◌≤◌, length, None, sym, ◌∙◌, ap, subst, arith}
+use Rattle.std.proofs.Common.{◌≡◌, ◌≢◌, ◌+◌, ◌<◌, ◌≤◌, length, None, sym, ◌∙◌, ap, subst, arith}
 use Rattle.flight_link.specs.Nodes.{is_ended}
 use Rattle.flight_link.specs.Backlogs.{AreListed}
 use Rattle.flight_link.proofs.Hanging.{next_listed}
