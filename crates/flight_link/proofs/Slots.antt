@@ -1,6 +1,6 @@
 -- The slots of nodes by their numbers, and what stands below a slot.
-use Rattle.std.proofs.Common.{◌≡◌, ◌≢◌, ℕ, zero, suc, ◌+◌, ◌*◌, ◌/◌, ◌%◌, ◌<◌, ◌≤◌, Bool, true, false, List, [], ◌∷◌, ◌++◌, map, length, Option, Some, None, slice_get, refl, sym, ◌∙◌, ap, subst, arith, inl, inr, ◌⊎◌}
-use Rattle.std.specs.Prelude.{is_some, if◌then◌else◌, option_and_then, option_map, codes, All}
+use Rattle.std.proofs.Common.{◌≡◌, ◌≢◌, ℕ, zero, suc, ◌+◌, ◌/◌, ◌%◌, ◌<◌, Bool, true, false, List, [], ◌∷◌, map, length, Option, Some, None, slice_get, refl, sym, ◌∙◌, ap, subst, arith, inl, inr}
+use Rattle.std.specs.Prelude.{is_some, if◌then◌else◌, option_and_then, option_map, codes}
 use Rattle.std.proofs.lemmas.Option.{none-some, same_Some, slice_get-map, slice_get-get_or}
 use Rattle.std.proofs.Math.Nat.{div-add-mod, mod-lt}
 use Rattle.flight_text.specs.declared.mark.Ref.{Ref}
@@ -18,7 +18,7 @@ use Rattle.flight_place.specs.Linked as linked
 use Rattle.flight_place.specs.Linked.{rows_of, place_at, first_place}
 use Rattle.flight_place.specs.Parts.{IsWithin}
 use Rattle.flight_place.specs.Resolve.{property, to, Found, found, stream, not_yet, nowhere}
-use Rattle.flight_place.specs.Meaning.{Written, at_place, value_of, at_places, Identity, made_at, promise_of, stream_of, action_of, pending, stand_of, Leads, LeadsHere, IsTarget, HasShape, HasShapeHere, node_here, Token, map_token, set_token, token_label, HasSlots, slots_in, slots_found, entry, both, entries, Reference, text_at, bound_at, reference_with, reference_in, reference_by, reference_of, there, action_shape}
+use Rattle.flight_place.specs.Meaning.{Written, at_place, value_of, at_places, Identity, made_at, promise_of, stream_of, action_of, pending, Leads, LeadsHere, IsTarget, HasShape, HasShapeHere, Token, map_token, set_token, token_label, HasSlots, slots_in, slots_found, entry, both, entries, Reference, text_at, bound_at, reference_with, reference_in, reference_by, reference_of, there, action_shape}
 use Rattle.flight_place.proofs.Walking.{one_end}
 use Rattle.flight_link.specs.declared.found.Spot.{Spot}
 use Rattle.flight_link.specs.declared.node.State.{State}
@@ -28,7 +28,7 @@ use Rattle.flight_link.specs.declared.target.Target.{Target}
 use Rattle.flight_link.specs.declared.target.Target.TheVariants as target
 use Rattle.flight_link.specs.declared.below.Below.TheVariants as below
 use Rattle.flight_link.specs.Spots.{IsSpot}
-use Rattle.flight_link.specs.Looking.{Awaits, Sight, awaits, no_place, SeesPast, InSlot, Sees}
+use Rattle.flight_link.specs.Looking.{no_place, SeesPast, InSlot, Sees}
 use Rattle.flight_link.specs.Nodes.{IsPlain, IsFine, IsTable, AreLinked, IsRowOf, place_in, spot_of}
 use Rattle.flight_link.specs.Waiting.{IsResolved}
 use Rattle.flight_link.specs.Targets.{IsTargetOf, token_place}

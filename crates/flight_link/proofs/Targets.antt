@@ -1,6 +1,6 @@
 -- What slots lead to.
-use Rattle.std.proofs.Common.{◌≡◌, ◌≢◌, ℕ, Bool, true, false, List, [], ◌∷◌, ◌++◌, Option, Some, None, slice_get, refl, sym, ◌∙◌, ap, subst, inl, inr, ◌⊎◌}
-use Rattle.std.specs.Prelude.{is_some, if◌then◌else◌, ◌||◌, option_and_then}
+use Rattle.std.proofs.Common.{◌≡◌, ◌≢◌, ℕ, true, false, List, [], Option, Some, None, slice_get, refl, sym, ◌∙◌, ap, subst, inl, inr}
+use Rattle.std.specs.Prelude.{is_some, if◌then◌else◌}
 use Rattle.std.proofs.lemmas.Bool.{false≢true}
 use Rattle.std.proofs.lemmas.Option.{none-some, same_Some}
 use Rattle.flight_text.specs.declared.mark.Ref.{Ref}
@@ -13,8 +13,8 @@ use Rattle.flight_place.specs.declared.place.Place.TheVariants as place
 use Rattle.flight_place.specs.declared.place.PlacedRow.{PlacedRow}
 use Rattle.flight_place.specs.Linked as linked
 use Rattle.flight_place.specs.Linked.{rows_of, place_at}
-use Rattle.flight_place.specs.Resolve.{Path, Stand, to, here, Found, found, stream, not_yet, nowhere, Ends, Endless, LeadsNowhere}
-use Rattle.flight_place.specs.Meaning.{Written, at_place, value_of, Identity, made_at, promise_of, action_of, pending, stand_of, Leads, LeadsHere, TokenLeads, Token, map_token, set_token, HasSlots, FailsWith, slots_in, slots_found, Reference, reference_of}
+use Rattle.flight_place.specs.Resolve.{Path, to, here, Found, found, not_yet, nowhere, Ends, Endless, LeadsNowhere}
+use Rattle.flight_place.specs.Meaning.{Written, at_place, value_of, Identity, made_at, promise_of, action_of, pending, stand_of, Leads, LeadsHere, TokenLeads, Token, map_token, set_token, slots_in, slots_found, Reference, reference_of}
 use Rattle.flight_place.specs.Good.{IsTokenDefined}
 use Rattle.flight_place.specs.Parts.{IsTold}
 use Rattle.flight_place.proofs.Walking.{one_end, not_endless, ends_back, turn_ends}
@@ -27,9 +27,8 @@ use Rattle.flight_link.specs.declared.node.State.TheVariants.{Absent, Ended, Los
 use Rattle.flight_link.specs.declared.table.Table.{Table}
 use Rattle.flight_link.specs.declared.target.Target.{Target}
 use Rattle.flight_link.specs.declared.target.Target.TheVariants as target
-use Rattle.flight_link.specs.Spots.{IsSpot}
 use Rattle.flight_link.specs.Looking.{Awaits, AwaitsHere}
-use Rattle.flight_link.specs.Least.{fails_in, token_at}
+use Rattle.flight_link.specs.Least.{token_at}
 use Rattle.flight_link.specs.Nodes.{IsPlain, IsTable, AreLinked, AreStates, IsNodeAt, HasBegun, place_in, spot_of, stand, last_names, with_path}
 use Rattle.flight_link.specs.Nodes as nodes
 use Rattle.flight_link.specs.Waiting.{IsResolved, WaitsFor, WaitsForever}
@@ -38,7 +37,7 @@ use Rattle.flight_link.proofs.PlainRows.{row_there, place_there}
 use Rattle.flight_link.proofs.Stepping.{at_all, stop_ends}
 use Rattle.flight_link.proofs.Waits.{reaches_ends, ends_come, endless_come}
 use Rattle.flight_link.proofs.Finds.{is_spot}
-use Rattle.flight_link.proofs.Defined.{token_ended, token_never}
+use Rattle.flight_link.proofs.Defined.{token_ended}
 
 -- ---- where a slot's walk ends at a place
 

@@ -1,12 +1,12 @@
 -- The slots of nodes by their numbers, and what stands below a slot.
-use Rattle.std.specs.Prelude.{ℕ, ◌^◌, ◌≤◌, ◌≡◌, List, [], ◌∷◌, length, take, slice_get, Option, Some, None, option_map}
+use Rattle.std.specs.Prelude.{ℕ, ◌≡◌, List, [], ◌∷◌, slice_get, Option, Some, None, option_map}
 use Rattle.flight_value.specs.Store.{Label, Shape}
 use Rattle.flight_text.specs.declared.mark.Ref.{Ref}
 use Rattle.flight_place.specs.declared.place.Place.{Place}
 use Rattle.flight_place.specs.declared.place.Place.TheVariants as place
 use Rattle.flight_place.specs.declared.place.PlacedRow.{PlacedRow}
 use Rattle.flight_place.specs.Resolve.{property}
-use Rattle.flight_place.specs.Meaning.{Written, at_place, Identity, made_at, HasShape, Token, HasSlots, slots_in, Reference, reference_of}
+use Rattle.flight_place.specs.Meaning.{Written, at_place, Identity, HasShape, Token, HasSlots, slots_in, Reference, reference_of}
 use Rattle.flight_graph.specs.declared.label.Kind.{Kind}
 use Rattle.flight_graph.specs.declared.label.Kind.TheVariants as graph_kind
 use Rattle.flight_graph.specs.declared.label.Label.TheVariants as look
@@ -18,7 +18,6 @@ use Rattle.flight_link.specs.declared.below.Below.TheVariants as below
 use Rattle.flight_link.specs.declared.target.Target.{Target}
 use Rattle.flight_link.specs.Looking.{Sight, sees_atom, sees_node, awaits, no_place, SeesHere, Sees, Shows, IsMark, kind_of}
 use Rattle.flight_link.specs.Nodes.{place_in, spot_of}
-use Rattle.flight_link.specs.Spots.{places_in}
 use Rattle.flight_link.specs.Targets.{IsTargetOf}
 
 -- ---- slots

@@ -1,7 +1,3 @@
-use Rattle.std.proofs.Common.{sym, subst, ◌∙◌}
-use Rattle.flight_place.specs.Meaning.{made_at}
-use Rattle.flight_link.specs.Nodes.{spot_of}
-use Rattle.flight_link.specs.Slots.{IsSlotAt}
 use Rattle.flight_link.proofs.Slots.{node_below, node_past, node_place}
 use Rattle.flight_link.proofs.table.Table.below_node.Goals as goal
 

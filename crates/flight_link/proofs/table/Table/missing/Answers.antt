@@ -1,8 +1,8 @@
 use Rattle.flight_link.proofs.Targets.{missing_absent, missing_waits, missing_ring}
-use Rattle.flight_link.specs.declared.node.State.TheVariants.{Absent, Behind}
+use Rattle.flight_link.specs.declared.node.State.TheVariants.{Behind}
 use Rattle.flight_link.specs.Waiting.{IsResolved, WaitsFor, WaitsForever}
 use Rattle.flight_link.specs.Targets.{IsMissing}
-use Rattle.std.proofs.Common.{ℕ, Option, Some, None, ◌≡◌, refl, subst, sym}
+use Rattle.std.proofs.Common.{ℕ, Option, Some, None, subst}
 use Rattle.std.specs.Prelude.{MatchOption}
 use Rattle.flight_link.proofs.table.Table.missing.Goals as goal
 

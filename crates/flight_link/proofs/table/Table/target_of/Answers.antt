@@ -1,4 +1,4 @@
-use Rattle.std.proofs.Common.{subst, sym, ◌∙◌}
+use Rattle.std.proofs.Common.{subst, sym}
 use Rattle.flight_link.specs.Nodes.{IsKnown}
 use Rattle.flight_link.proofs.Targets.{absent_target}
 use Rattle.flight_link.proofs.table.Table.target_of.Goals as goal
