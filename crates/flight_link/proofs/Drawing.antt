@@ -1,9 +1,9 @@
 -- Keys under numbers, and what is drawn under them.
-use Rattle.std.proofs.Common.{take, get_or, true, false, Bool, cond, ◌&&◌, ◌≡◌, ◌≢◌, ℕ, zero, suc, ◌+◌, ◌<◌, ◌≤◌, ◌^◌, nat_eq, List, [], ◌∷◌, ◌++◌, length, map, Option, Some, None, option_and_then, slice_get, refl, sym, ◌∙◌, ap, subst, arith, inl, inr, ◌⊎◌}
-use Rattle.std.specs.List.{AllZip, flat_map}
+use Rattle.std.proofs.Common.{take, get_or, true, false, Bool, cond, ◌&&◌, ◌≡◌, ◌≢◌, ℕ, zero, suc, ◌+◌, ◌<◌, ◌≤◌, ◌^◌, nat_eq, List, [], ◌∷◌, ◌++◌, length, map, Option, Some, None, slice_get, refl, sym, ◌∙◌, ap, subst, arith, inl, inr, ◌⊎◌}
+use Rattle.std.specs.List.{AllZip}
 use Rattle.std.specs.HashMap.{get}
 use Rattle.std.proofs.lemmas.Bool.Decides.{eqb_tells, nat_tests}
-use Rattle.std.proofs.lemmas.Option.{none-some, same_Some, slice_get_within, slice_get_past}
+use Rattle.std.proofs.lemmas.Option.{none-some, same_Some}
 use Rattle.flight_value.specs.Graph.{slots_of}
 use Rattle.flight_value.specs.declared.graph.Slot.{Slot}
 use Rattle.flight_value.specs.declared.graph.Slot.TheVariants as slot
@@ -13,14 +13,13 @@ use Rattle.flight_value.specs.declared.graph.Node.{Node}
 use Rattle.flight_value.specs.declared.graph.Node.TheVariants as node
 use Rattle.flight_value.specs.Store as store
 use Rattle.flight_text.specs.declared.mark.Ref.{Ref}
-use Rattle.flight_place.specs.declared.place.Place.{Place}
 use Rattle.flight_place.specs.declared.place.Place.TheVariants as place
 use Rattle.flight_place.specs.declared.place.Named.{Named}
 use Rattle.flight_place.specs.declared.place.PlacedRow.{PlacedRow}
 use Rattle.flight_place.specs.Linked as linked
 use Rattle.flight_place.specs.Linked.{place_at, beside}
 use Rattle.flight_place.specs.Resolve.{to, found, Ends}
-use Rattle.flight_place.specs.Meaning.{Written, at_place, value_of, slots_in, Identity, made_at, promise_of, at_places, entry, both, entries, map_token, set_token, HasSlots, HasShape, HasShapeHere, Leads}
+use Rattle.flight_place.specs.Meaning.{Written, at_place, value_of, slots_in, Identity, made_at, promise_of, at_places, entry, both, entries, map_token, set_token, HasSlots, HasShapeHere, Leads}
 use Rattle.flight_place.proofs.MoreRows.{slice_get-front}
 use Rattle.flight_link.specs.declared.found.Spot.{Spot}
 use Rattle.flight_link.specs.declared.key.NodeKey.{NodeKey}
@@ -81,9 +80,9 @@ numbered_push old new key is none keys here others = record {
   ]);
   back = λ i other e. elim (push_get old.keys.items key i other (sym (ap (λ ks. slice_get ks i) keys) ∙ e)) [
     | inl h ↦ elim (tell key other) [
-        | inl s ↦ absurd (none-some i (sym none ∙ (ap (number_of old) s ∙ is.back i other h)))
-        | inr ne ↦ others other ne ∙ is.back i other h
-      ]
+      | inl s ↦ absurd (none-some i (sym none ∙ (ap (number_of old) s ∙ is.back i other h)))
+      | inr ne ↦ others other ne ∙ is.back i other h
+    ]
     | inr p ↦ sym (ap (number_of new) p.1) ∙ (here ∙ ap Some (sym p.0))
   ];
 }
@@ -98,14 +97,17 @@ put_made old new id at number keys promises actions h = record {
   where
     same_true : (n : ℕ) → nat_eq n n ≡ true
     same_true n = grind (arith, nat_tests)
+
     both_true : (a b : Bool) → a ≡ true → b ≡ true → (a && b) ≡ true
     both_true true true p q = refl
     both_true true false p q = q
     both_true false b p q = p
+
     made_apart : (j n : ℕ) → Made id at ≢ Made j n → ((nat_eq id j ≡ true) × (id ≡ j)) ⊎ ((nat_eq id j ≡ false) × (id ≢ j)) → ((nat_eq at n ≡ true) × (at ≡ n)) ⊎ ((nat_eq at n ≡ false) × (at ≢ n)) → (nat_eq id j && nat_eq at n) ≡ false
     made_apart j n ne (inl p) (inl q) = absurd (ne (ap (λ x. Made x at) p.1 ∙ ap (Made j) q.1))
     made_apart j n ne (inl p) (inr q) = ap (λ b. b && nat_eq at n) p.0 ∙ q.0
     made_apart j n ne (inr p) q = ap (λ b. b && nat_eq at n) p.0
+
     go : (other : NodeKey) → Made id at ≢ other → number_of new other ≡ number_of old other
     go (Made j n) ne = h (j, n) ∙ ap (λ b. cond b (Some number) (get pair_eq old.places (j, n))) (made_apart j n ne (eqb_tells id j) (eqb_tells at n))
     go (Promise j) ne = ap (λ t. get nat_eq t j) promises

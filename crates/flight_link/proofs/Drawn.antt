@@ -1,7 +1,6 @@
 -- The graph that was drawn is that of the rows.
-use Rattle.std.proofs.Common.{◌≡◌, ◌≢◌, ℕ, zero, suc, ◌+◌, ◌<◌, ◌≤◌, ◌^◌, List, [], ◌∷◌, length, map, Bool, true, false, Option, Some, None, option_and_then, slice_get, refl, sym, ◌∙◌, ap, subst, arith, inl, inr, ◌⊎◌}
-use Rattle.std.specs.Prelude.{option_map, slice_index_or, Contains, is_some, if◌then◌else◌}
-use Rattle.std.specs.List.{AllZip}
+use Rattle.std.proofs.Common.{◌≡◌, ℕ, zero, suc, ◌+◌, ◌<◌, ◌≤◌, List, [], ◌∷◌, length, Some, slice_get, refl, sym, ◌∙◌, ap, subst, arith, inl, inr}
+use Rattle.std.specs.Prelude.{option_map, slice_index_or}
 use Rattle.std.proofs.lemmas.Option.{none-some, same_Some, slice_get_within, slice_get_cases}
 use Rattle.flight_value.specs.declared.graph.Slot.{Slot}
 use Rattle.flight_value.specs.declared.graph.Slot.TheVariants as slot
@@ -15,7 +14,7 @@ use Rattle.flight_place.specs.Meaning.{Written, value_of, Identity, made_at, pro
 use Rattle.flight_place.specs.Linked as linked
 use Rattle.flight_link.specs.declared.key.NodeKey.{NodeKey}
 use Rattle.flight_link.specs.declared.key.NodeKey.TheVariants.{Made, Promise, Action}
-use Rattle.flight_link.specs.Drawing.{identity_of, numbered_from, Draws, DrawsNode, AreDrawn, AreApart}
+use Rattle.flight_link.specs.Drawing.{identity_of, numbered_from, Draws, AreDrawn, AreApart}
 use Rattle.flight_link.proofs.Drawing.{zip_as}
 
 -- ---- pairs of numbers and identities

@@ -1,16 +1,15 @@
 -- The graph that was drawn is valid.
-use Rattle.std.proofs.Common.{get_or, ◌≡◌, ◌≢◌, ℕ, zero, suc, ◌+◌, ◌<◌, ◌≤◌, ◌^◌, codes, List, [], ◌∷◌, length, map, Bool, true, false, Option, Some, None, option_and_then, slice_get, refl, sym, ◌∙◌, ap, subst, arith, inl, inr, ◌⊎◌, All}
+use Rattle.std.proofs.Common.{get_or, ◌≡◌, ℕ, ◌<◌, ◌≤◌, ◌^◌, codes, List, [], ◌∷◌, length, map, Bool, true, false, Option, Some, None, option_and_then, slice_get, refl, sym, ◌∙◌, ap, subst, arith, inl, inr, ◌⊎◌, All}
 use Rattle.std.specs.Prelude.{is_some, if◌then◌else◌}
 use Rattle.std.specs.List.{AllZip, AllByRecursion}
 use Rattle.std.proofs.lemmas.Option.{none-some, same_Some, slice_get_within, get_or_from_slice_get, slice_get-get_or}
-use Rattle.std.proofs.lemmas.List.Elements.{All-from_recursion, All-get_or, All-from_get_or}
+use Rattle.std.proofs.lemmas.List.Elements.{All-from_recursion, All-get_or}
 use Rattle.flight_value.specs.declared.graph.Atom.{Atom}
 use Rattle.flight_value.specs.declared.graph.Atom.TheVariants as atom
 use Rattle.flight_value.specs.declared.graph.Slot.{Slot}
 use Rattle.flight_value.specs.declared.graph.Slot.TheVariants as slot
 use Rattle.flight_value.specs.declared.graph.Node.{Node}
 use Rattle.flight_value.specs.declared.graph.Node.TheVariants as node
-use Rattle.flight_value.specs.declared.graph.Graph.{Graph}
 use Rattle.flight_value.specs.Graph.{slots_of, Ascend, IsValidAtom, IsValidSlot, IsPromise, IsBound, IsValidKind, IsValidNode, IsValid}
 use Rattle.flight_value.specs.Store as store
 use Rattle.flight_value.specs.Store.{Label, Shape, Target, label_of, of_graph, DrawOneGraph}
@@ -24,13 +23,12 @@ use Rattle.flight_place.specs.declared.place.PlacedRow.{PlacedRow}
 use Rattle.flight_place.specs.Linked as linked
 use Rattle.flight_place.specs.Linked.{rows_of, place_at, beside, first_place}
 use Rattle.flight_place.specs.Parts.{HasOrder, HasValidAtom}
-use Rattle.flight_place.specs.Resolve.{property, here, Found, found, stream, not_yet, nowhere, Ends}
+use Rattle.flight_place.specs.Resolve.{property, here, Found, found, stream, not_yet, nowhere}
 use Rattle.flight_place.specs.Meaning as meaning
 use Rattle.flight_place.specs.Meaning.{Written, at_place, value_of, Identity, made_at, promise_of, stream_of, action_of, Token, Reference, text_at, bound_at, reference_with, reference_in, reference_by, reference_of, there, Flowed, opened, flowed, stream_shape, action_shape, HasShapeHere, HasShape, pending, TokenLeads, LeadsHere, IsTarget, Leads}
 use Rattle.flight_place.proofs.Walking.{turn_ends, stop_turn}
 use Rattle.flight_place.proofs.OneMeaning.{leads_once}
 use Rattle.flight_link.specs.declared.key.NodeKey.{NodeKey}
-use Rattle.flight_link.specs.declared.key.NodeKey.TheVariants.{Made, Promise, Action}
 use Rattle.flight_link.specs.Nodes.{IsFine}
 use Rattle.flight_link.specs.declared.draw.Drawing.{Drawing}
 use Rattle.flight_link.specs.Drawing.{identity_of, numbered_from, Draws, DrawsNode, AreDrawn, IsDrawing}
@@ -233,6 +231,7 @@ action_bound rows (stream_of id) shape name h l = absurd (go (rows_of id rows) h
     kinds row.Error f e = none-some shape e
     kinds row.Text f e = none-some shape e
     kinds row.Close f e = none-some shape e
+
     go : (ts : List PlaceTree) → stream_shape id ts ≡ Some shape → ⊥
     go [] e = none-some shape e
     go (t ∷ ts) e = kinds t.kind (flowed id 1 ts) e

@@ -1,4 +1,4 @@
-use Rattle.std.proofs.Common.{◌≡◌, ◌≢◌, ◌∙◌, sym, ap, refl, ℕ, None, Some, List, ◌++◌, ◌∷◌, [], length, rules, slice_get}
+use Rattle.std.proofs.Common.{◌≡◌, ◌∙◌, sym, ap, refl, None, Some, List, ◌++◌, ◌∷◌, [], length, rules, slice_get}
 use Rattle.flight_link.specs.declared.key.NodeKey.{NodeKey}
 use Rattle.flight_link.specs.declared.numbers.Numbers.{Numbers}
 use Rattle.flight_link.specs.Numbering.{number_of}

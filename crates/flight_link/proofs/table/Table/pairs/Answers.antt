@@ -1,4 +1,4 @@
-use Rattle.std.proofs.Common.{rules, ◌≡◌, ◌+◌, ◌<◌, sym, ap, subst, List, ◌++◌, ◌∷◌, [], length, take}
+use Rattle.std.proofs.Common.{◌+◌, ◌<◌, sym, subst, length, take}
 use Rattle.flight_link.specs.Nodes.{spot_of}
 use Rattle.flight_link.specs.Drawing.{ArePairs}
 use Rattle.flight_link.proofs.Drawing.{grows_on, pairs_more}
@@ -13,5 +13,5 @@ loop-place-preserved c =
       numbered = c.in_ok-pair.ensures.numbered;
       grows = grows_on c.args.numbers.now.keys.items old new c.loop-place.invariant.grows c.in_ok-pair.ensures.grows;
       pairs = subst (λ xs. ArePairs c.args.self.now.rows.items new (spot_of c.args.self.now.rows.items c.args.spot) xs (take (c.loop-place.place-index + 1) c.args.places.now)) (sym c.in_ok-push.ensures.items)
-        (pairs_more c.args.self.now.rows.items old new (spot_of c.args.self.now.rows.items c.args.spot) c.loop-place.pairs.items c.args.places.now c.loop-place.place-index c.in_ok-pair.field-0 less c.in_ok-pair.ensures.grows c.loop-place.invariant.pairs c.in_ok-pair.ensures.pair);
+          (pairs_more c.args.self.now.rows.items old new (spot_of c.args.self.now.rows.items c.args.spot) c.loop-place.pairs.items c.args.places.now c.loop-place.place-index c.in_ok-pair.field-0 less c.in_ok-pair.ensures.grows c.loop-place.invariant.pairs c.in_ok-pair.ensures.pair);
     }
