@@ -169,7 +169,7 @@ pub no_action_target : (t : Table) (end : Spot) (id : ℕ) → IsTable t → pla
 no_action_target t end id table e none row w ends = (
   action_pending t end id w table e none ends,
   not_awaited t.rows.items w (spot_of t.rows.items end) (place.Action id) ends (place_there t.rows.items end (place.Action id) table.plain e)
-  (λ other h. row (subst (λ i. rows_of i t.rows.items ≡ []) (sym h.0) h.1)),
+      (λ other h. row (subst (λ i. rows_of i t.rows.items ≡ []) (sym h.0) h.1)),
 )
 
 pub action_awaits : (t : Table) (end : Spot) (id : ℕ) → IsTable t → place_in t.rows.items end ≡ Some (place.Action id) → ((x : Reference) × (reference_of t.rows.items id ≡ Some x) → ⊥) → rows_of id t.rows.items ≡ [] → IsTargetFrom t.rows.items end (target.Awaits id)
@@ -222,7 +222,7 @@ pub token_lost : (t : Table) (states : List State) (k : Token) (end spot : Spot)
 token_lost t states k end spot r table e h other w ends = (
   token_pending t.rows.items k w (spot_of t.rows.items end) r ends (place_there t.rows.items end (token_place k r) table.plain e) (λ d. false≢true (sym other ∙ (token_ended t states k r spot table h).1 d)),
   not_awaited t.rows.items w (spot_of t.rows.items end) (token_place k r) ends (place_there t.rows.items end (token_place k r) table.plain e)
-  (λ id x. let y = awaits_token t.rows.items k (spot_of t.rows.items end) r id x in found_waits (spot_of t.rows.items spot) id y.0 (one_end t.rows.items (to r.id r.path) (found (spot_of t.rows.items spot)) (not_yet id y.0) h.0 y.1)),
+      (λ id x. let y = awaits_token t.rows.items k (spot_of t.rows.items end) r id x in found_waits (spot_of t.rows.items spot) id y.0 (one_end t.rows.items (to r.id r.path) (found (spot_of t.rows.items spot)) (not_yet id y.0) h.0 y.1)),
 )
 
 -- a token whose reference leads to its entries, or to a failure

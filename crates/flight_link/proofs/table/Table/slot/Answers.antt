@@ -22,6 +22,6 @@ returns-in_default-place c =
     let stands = sym c.in-Some.ensures in
     record {
       slot = subst (IsSlotAt c.args.self.now.rows.items (made_at (spot_of c.args.self.now.rows.items c.args.node)) c.args.slot) same
-      (plain_slot c.args.self.now c.args.node c.in-Some.place.now c.args.slot c.requires.linked.table stands (no_token c.in-Some.place.now c.in_default-place.not-Map c.in_default-place.not-Set));
+          (plain_slot c.args.self.now c.args.node c.in-Some.place.now c.args.slot c.requires.linked.table stands (no_token c.in-Some.place.now c.in_default-place.not-Map c.in_default-place.not-Set));
       there = subst (IsThere c.args.self.now.rows.items) same (number_there c.args.self.now c.args.node c.in-Some.place.now c.args.slot c.requires.linked.table stands);
     }
