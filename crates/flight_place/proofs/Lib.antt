@@ -3,3 +3,8 @@ pub mod Walks
 pub mod Trees
 pub mod Within
 pub mod Ordered
+pub mod Walking
+pub mod Paths
+pub mod OneMeaning
+pub mod MoreRows
+pub mod MoreMeaning
