@@ -11,6 +11,8 @@
 
 mod fault;
 mod found;
+mod links;
 
 pub use fault::{LinkFault, LinkKind};
 pub use found::{Found, Seen, Spot};
+pub use links::Links;
