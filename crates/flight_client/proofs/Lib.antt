@@ -1,0 +1,4 @@
+pub mod Adding
+pub mod Items
+pub mod Pieces
+pub mod Finishes

@@ -1,0 +1,11 @@
+//! A client of Flight: bytes of a stream come in pieces of any size, and become a graph.
+#![tactic(auto)]
+
+mod client;
+mod fault;
+mod piece;
+mod rows;
+mod whole;
+
+pub use client::Client;
+pub use fault::ClientFault;
