@@ -1,7 +1,8 @@
 -- What a piece brings to a client.
-use Rattle.std.proofs.Common.{◌≡◌, ℕ, ◌+◌, ◌<◌, All, List, [], ◌∷◌, ◌++◌, length, refl, sym, ◌∙◌, ap, subst, arith, append_assoc, append-nil, length-append, None, Some}
+use Rattle.std.proofs.Common.{◌≡◌, ℕ, ◌+◌, ◌<◌, All, List, [], ◌∷◌, ◌++◌, length, refl, sym, ◌∙◌, ap, subst, arith, append_assoc, append-nil, length-append, None, Some, false}
 use Rattle.std.specs.Prelude.{Result, Ok, Err, OnOk, IfErr}
 use Rattle.std.specs.List.{AllZip}
+use Rattle.std.proofs.lemmas.List.Elements.{All-nil}
 use Rattle.flight_row.specs.declared.row.Row.{Row}
 use Rattle.flight_row.specs.Rows.{Item, handed, hint, rows_of, SpellAll}
 use Rattle.flight_feed.specs.declared.arrived.Arrived.{Arrived}
@@ -9,8 +10,11 @@ use Rattle.flight_feed.specs.declared.fault.FeedKind.{FeedKind}
 use Rattle.flight_feed.specs.Fed.{Fed}
 use Rattle.flight_feed.specs.Parts.{IsPart}
 use Rattle.flight_feed.specs.Stream.{Advances, IsRefused, IsLeft, numbered}
+use Rattle.flight_feed.proofs.Parts.{no_part}
 use Rattle.flight_feed.proofs.Runs.{SpellAll-append}
 use Rattle.flight_place.specs.declared.place.PlacedRow.{PlacedRow}
+use Rattle.flight_place.specs.Linked.{absent}
+use Rattle.flight_link.specs.Adding.{is_of_stream}
 use Rattle.flight_client.specs.declared.fault.ClientFault.{ClientFault}
 use Rattle.flight_client.specs.declared.fault.ClientFault.TheVariants as fault
 use Rattle.flight_client.specs.Rows.{IsPlacedRow, ArePlaced, HaveRows, StartsWith}
@@ -146,3 +150,57 @@ stops_more text piece feed feed' old new arrived rest m f on a s =
 pub piece_stands : (r : Result (Unit {0}) ClientFault) (text piece : List ℕ) (feed feed' : Fed) (old new : List PlacedRow) (arrived : List Arrived) → IsOn text feed old → Advances (feed.bytes ++ piece) feed.number [] arrived feed'.bytes feed'.number → IsPart feed'.bytes → OnOk r (Adds arrived old new) → IfErr r (StopsAt arrived old new) → Stands (text ++ piece) (fault_in r) feed' new
 piece_stands (Ok x) text piece feed feed' old new arrived on a part ok stops = on_more text piece feed feed' old new arrived on a part ok
 piece_stands (Err f) text piece feed feed' old new arrived on a part ok stops = stops_more text piece feed feed' old new arrived feed'.bytes feed'.number f on a stops
+
+-- ---- a fault stays, whatever follows
+
+starts_more : (text piece : List ℕ) (items : List Item) → StartsWith text items → StartsWith (text ++ piece) items
+starts_more text piece items s =
+    record {
+      front = s.front;
+      rest = s.rest ++ piece;
+      spelled = s.spelled;
+      whole = ap (λ xs. xs ++ piece) s.whole ∙ append_assoc s.front s.rest piece;
+    }
+
+next_more : (text piece : List ℕ) (placed : List PlacedRow) (number : ℕ) (r : Row) → HasNext text placed number r → HasNext (text ++ piece) placed number r
+next_more text piece placed number r n =
+    record {
+      items = n.items;
+      starts = starts_more text piece (n.items ++ handed r ∷ []) n.starts;
+      have = n.have;
+      is_number = n.is_number;
+    }
+
+pub fault_more : (text piece : List ℕ) (feed : Fed) (placed : List PlacedRow) (f : ClientFault) → Stands text (Some f) feed placed → Stands (text ++ piece) (Some f) feed placed
+fault_more text piece feed placed (fault.Feed number kind) h =
+    record {
+      items = h.items;
+      refuses = record {
+        front = h.refuses.front;
+        bad = h.refuses.bad;
+        more = h.refuses.more ++ piece;
+        spelled = h.refuses.spelled;
+        whole = rw h.refuses.whole (simp append_assoc);
+        is_bad = h.refuses.is_bad;
+      };
+      have = h.have;
+      is_number = h.is_number;
+    }
+fault_more text piece feed placed (fault.Place number kind) h =
+    record { next = h.next; has_next = next_more text piece placed number h.next h.has_next; is_fault = h.is_fault }
+fault_more text piece feed placed (fault.Link number kind) h =
+    record { next = h.next; has_next = next_more text piece placed number h.next h.has_next; tree = h.tree; is_tree = h.is_tree; is_refused = h.is_refused }
+fault_more text piece feed placed fault.NoRoot h = absurd h
+fault_more text piece feed placed (fault.Undefined id) h = absurd h
+fault_more text piece feed placed fault.Memory h = record { items = h.items; starts = starts_more text piece h.items h.starts; have = h.have }
+
+-- ---- before the first byte
+
+pub nothing_taken : (feed : Fed) (placed : List PlacedRow) → feed.bytes ≡ [] → feed.number ≡ 1 → placed ≡ [] → IsOn [] feed placed
+nothing_taken feed placed e n p =
+    record {
+      items = [];
+      splits = record { front = []; spelled = refl; whole = sym e; is_part = subst IsPart (sym e) no_part };
+      have = subst (HaveRows []) (sym p) (record { are_placed = tt; are_linked = record { follow_on = λ id. (absent, refl); of_no_stream = All-nil (λ r. is_of_stream r.tree.kind ≡ false) } });
+      is_number = n;
+    }

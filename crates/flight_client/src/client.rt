@@ -15,7 +15,7 @@ use crate::piece::take;
 use crate::whole::whole_graph;
 use flight_feed::{Feed, FeedFault};
 use flight_link::{Links, Seen};
-use flight_value::{Graph, List, Memory};
+use flight_value::{Graph, Memory};
 use std::alloc::Global;
 use std::marker::Model;
 
@@ -88,7 +88,7 @@ impl Client {
     }
 
     /// For each node of the canon of that graph, in order, the id of the row that holds it.
-    pub fn origins(&self, alloc: Global) -> Result<List<u32>, Memory>
+    pub fn origins(&self, alloc: Global) -> Result<flight_value::List<u32>, Memory>
         ensures { IfOk result (AreOrigins self.now.rows) }
     {
         self.links.origins(alloc)
