@@ -3,3 +3,4 @@ pub mod Adding
 pub mod Finding
 pub mod Looking
 pub mod Origins
+pub mod Stub

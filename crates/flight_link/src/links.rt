@@ -26,14 +26,16 @@ pub struct Links {
 }
 
 impl Model for Links {
-    ghost use Rattle.std.specs.Prelude.{◌≡◌, List, []};
+    ghost use Rattle.std.specs.Prelude.{List};
     ghost use Rattle.flight_place.specs.declared.place.PlacedRow.{PlacedRow};
 
     ghost Value = { List PlacedRow };
 
     ghost view = { λ l. l.rows.items };
 
-    ghost invariant = { λ l. l.rows.items ≡ [] };
+    ghost use Rattle.flight_link.specs.Stub.{IsNone};
+
+    ghost invariant = { λ l. IsNone l.rows.items };
 }
 
 impl Links {
