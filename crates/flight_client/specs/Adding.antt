@@ -1,11 +1,15 @@
--- What rows that came do to those that were linked; for private clauses.
-use Rattle.std.specs.Prelude.{ℕ, ◌^◌, ◌<◌, ◌≡◌, List, [], ◌∷◌, ◌++◌, IsUtf8}
+-- What rows that came do to those that were linked, and why a stream may not end; for private clauses.
+use Rattle.std.specs.Prelude.{ℕ, ◌^◌, ◌<◌, ◌≡◌, ◌≢◌, Some, List, [], ◌∷◌, ◌++◌, IsUtf8}
 use Rattle.std.specs.List.{AllZip}
 use Rattle.flight_feed.specs.declared.arrived.Arrived.{Arrived}
+use Rattle.flight_feed.specs.declared.fault.FeedKind.TheVariants.{Cut}
+use Rattle.flight_feed.specs.Fed.{Fed}
 use Rattle.flight_place.specs.declared.place.Manner.TheVariants.{Wire}
 use Rattle.flight_place.specs.declared.place.PlaceTree.{PlaceTree}
 use Rattle.flight_place.specs.declared.place.PlacedRow.{PlacedRow}
 use Rattle.flight_place.specs.Rows.{IsTree, IsRowFault}
+use Rattle.flight_place.specs.Linked as linked
+use Rattle.flight_place.specs.Good.{IsLeastUndefined}
 use Rattle.flight_link.specs.Adding.{IsRefused}
 use Rattle.flight_client.specs.declared.fault.ClientFault.{ClientFault}
 use Rattle.flight_client.specs.declared.fault.ClientFault.TheVariants as fault
@@ -38,3 +42,15 @@ pub record StopsAt (arrived : List Arrived) (old new : List PlacedRow) (f : Clie
   pub split : arrived ≡ done ++ failed ∷ rest
   pub adds : Adds done old new
   pub is_failure : IsFailure new failed f
+
+-- what is wrong with whole rows, or memory is wanting
+abbrev pub IsWanting : List PlacedRow → ClientFault → Type 0
+IsWanting placed fault.NoRoot = linked.rows_of 0 placed ≡ []
+IsWanting placed (fault.Undefined id) = (linked.rows_of 0 placed ≢ []) × IsLeastUndefined placed (Some id)
+IsWanting placed fault.Memory = Unit {0}
+IsWanting placed f = ⊥
+
+-- why a stream may not end here
+abbrev pub IsEndFault : Fed → List PlacedRow → ClientFault → Type 0
+IsEndFault feed placed (fault.Feed number kind) = (feed.bytes ≢ []) × (number ≡ feed.number) × (kind ≡ Cut)
+IsEndFault feed placed f = (feed.bytes ≡ []) × IsWanting placed f

@@ -68,10 +68,3 @@ EndsWithFault text (fault.Link number kind) = (placed : List PlacedRow) × HasLi
 EndsWithFault text fault.NoRoot = (placed : List PlacedRow) × IsWhole text placed × (linked.rows_of 0 placed ≡ [])
 EndsWithFault text (fault.Undefined id) = (placed : List PlacedRow) × IsWhole text placed × (linked.rows_of 0 placed ≢ []) × IsLeastUndefined placed (Some id)
 EndsWithFault text fault.Memory = ⊥
-
--- what is wrong with whole rows, or memory is wanting
-abbrev pub IsEndFault : List PlacedRow → ClientFault → Type 0
-IsEndFault placed fault.NoRoot = linked.rows_of 0 placed ≡ []
-IsEndFault placed (fault.Undefined id) = (linked.rows_of 0 placed ≢ []) × IsLeastUndefined placed (Some id)
-IsEndFault placed fault.Memory = Unit {0}
-IsEndFault placed f = ⊥

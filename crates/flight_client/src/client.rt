@@ -10,10 +10,10 @@ ghost use Rattle.flight_client.specs.Faults.{EndsWithFault};
 ghost use Rattle.flight_client.specs.Held.{HasTaken};
 ghost use Rattle.flight_client.specs.declared.fault.ClientFault.{ClientFault};
 
+use crate::ended::end_stream;
 use crate::fault::ClientFault;
 use crate::piece::take;
-use crate::whole::whole_graph;
-use flight_feed::{Feed, FeedFault};
+use flight_feed::Feed;
 use flight_link::{Links, Seen};
 use flight_value::{Graph, Memory};
 use std::alloc::Global;
@@ -106,17 +106,13 @@ impl Client {
     {
         let Client {
             alloc: _,
-            mut feed,
+            feed,
             links,
             fault,
         } = self;
-        if let Some(fault) = fault {
-            return Err(fault);
-        }
-        match feed.end() {
-            Ok(()) => whole_graph(alloc, &links),
-            Err(FeedFault::Row { number, kind }) => Err(ClientFault::Feed { number, kind }),
-            Err(FeedFault::Memory) => Err(ClientFault::Memory),
+        match fault {
+            Some(fault) => Err(fault),
+            None => end_stream(alloc, feed, links),
         }
     }
 }

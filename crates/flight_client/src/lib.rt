@@ -2,10 +2,10 @@
 #![tactic(auto)]
 
 mod client;
+mod ended;
 mod fault;
 mod piece;
 mod rows;
-mod whole;
 
 pub use client::Client;
 pub use fault::ClientFault;

@@ -1,7 +1,7 @@
 use Rattle.std.proofs.Common.{◌≡◌, true, false}
 use Rattle.flight_place.specs.Linked.{rows_of}
 use Rattle.flight_client.proofs.Finishes.{none_unless}
-use Rattle.flight_client.proofs.whole.whole_graph.Goals as goal
+use Rattle.flight_client.proofs.ended.whole_graph.Goals as goal
 
 pub returns-then-not-has_root-clause-fault : goal.returns-then-not-has_root-clause-fault
 returns-then-not-has_root-clause-fault c =
