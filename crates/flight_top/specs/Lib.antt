@@ -1,5 +1,6 @@
 pub mod Model
 pub mod Fine
+pub mod Lines
 pub mod OneRow
 pub mod Told
 pub mod Due

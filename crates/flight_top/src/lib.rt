@@ -11,6 +11,7 @@
 
 mod alone;
 mod due;
+mod line;
 mod model;
 mod one_row;
 #[cfg(test)]
