@@ -2,3 +2,4 @@ pub mod Rows
 pub mod Faults
 pub mod Held
 pub mod Adding
+pub mod Meant

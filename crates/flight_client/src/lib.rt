@@ -2,10 +2,12 @@
 #![tactic(auto)]
 
 mod client;
+mod decode;
 mod ended;
 mod fault;
 mod piece;
 mod rows;
 
 pub use client::Client;
+pub use decode::decode_stream;
 pub use fault::ClientFault;
