@@ -6,29 +6,11 @@ use Rattle.flight_top.specs.declared.due.Undue.{Undue}
 use Rattle.std.specs.declared.alloc.Global.{Global}
 use Rattle.std.proofs.lemmas.List.{append_cancel_left, append_cancel_right, length-replicate}
 use Rattle.flight_base.specs.Outside.{IsAll, IsMore}
-use Rattle.flight_value.specs.declared.graph.Graph.{Graph}
 use Rattle.flight_top.specs.declared.told.Status.{Status}
 use Rattle.flight_top.specs.declared.told.Status.TheVariants as status
-use Rattle.flight_top.specs.Model.{MeansGraph}
-use Rattle.flight_top.specs.OneRow.{IsRowOf, IsOneRow}
 use Rattle.flight_top.specs.Told.{is_whole}
-use Rattle.flight_top.specs.Due.{IsDue, usage, view, IsDueView, IsDueViewOf, most_stream, texts}
-
--- a row has one payload
-pub one_payload : (input p q : List ℕ) → IsRowOf input p → IsRowOf input q → p ≡ q
-one_payload input p q a b =
-    append_cancel_left (codes "0:") p q (append_cancel_right (codes "0:" ++ p) (codes "0:" ++ q) (codes "\n") (sym a.row ∙ b.row))
-
--- a row whose payload means no graph means none
-pub no_graph : (input p : List ℕ) → IsRowOf input p → ((graph : Graph) → MeansGraph p graph → ⊥) → (graph : Graph) → IsOneRow input graph → ⊥
-no_graph input p a none graph (q, b, m) = let P : List ℕ → Type 0 = λ p. MeansGraph p graph in none graph (subst P (sym (one_payload input p q a b)) m)
-
-row_nonempty : (input p : List ℕ) → IsRowOf input p → input ≡ [] → ⊥
-row_nonempty input p a e = let len = ap length (sym e ∙ a.row) in omega (arith, len)
-
--- a row whose payload means no graph is refused
-pub not_built : (input p : List ℕ) → length input ≤ most_stream → IsRowOf input p → ((graph : Graph) → MeansGraph p graph → ⊥) → IsDueView input status.Stream (codes "stream: not built\n")
-not_built input p short a none = inr (inr (row_nonempty input p a, short, no_graph input p a none, refl))
+use Rattle.flight_top.specs.Due.{IsDue, usage, view, texts}
+use Rattle.flight_top.specs.View.{IsDueView, IsDueViewOf, most_stream}
 
 -- a refusal is due with its own status and line
 pub due_line : (input : List ℕ) (r : Result Due Undue) (line : List ℕ) → IfOk r (λ due. (due.status ≡ status.Stream) × (due.text ≡ line)) → IsDueView input status.Stream line → IfOk r (λ due. IsDueView input due.status due.text)

@@ -1,3 +1,4 @@
 pub mod Models
 pub mod Valid
 pub mod Dues
+pub mod ViewWords

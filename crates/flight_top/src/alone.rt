@@ -1,7 +1,8 @@
 ghost use Rattle.std.specs.Prelude.{◌≡◌, ◌↔◌, ◌≢◌, ◌⊎◌, ℕ, List, [], ◌∷◌, true, false, IsTrue};
 ghost use Rattle.flight_base.specs.Outside.{Rose, appended};
 ghost use Rattle.flight_top.specs.Told.{is_whole};
-ghost use Rattle.flight_top.specs.Due.{IsDue, PartOut, DuePartOut, texts, view_words};
+ghost use Rattle.flight_top.specs.Due.{IsDue, PartOut, DuePartOut, texts};
+ghost use Rattle.flight_top.specs.View.{IsView};
 
 use crate::due::{Undue, due_for};
 use crate::told::{Status, Told};
@@ -40,7 +41,7 @@ pub fn flight_alone<S: Source, K: Sink>(
         × (K.held sink.new ≡ appended (K.held sink.old) text) × (K.finished sink.new ≡ true) }
 
     // The source failed: nothing is printed.
-    ensures read { result.status ≡ Status.Read → (texts words.now ≡ view_words) × Rose (S.faults source.old) (S.faults source.new) × (K.held sink.new ≡ K.held sink.old) }
+    ensures read { result.status ≡ Status.Read → IsView (texts words.now) × Rose (S.faults source.old) (S.faults source.new) × (K.held sink.new ≡ K.held sink.old) }
 
     // The sink failed: a front of what was due is printed.
     ensures write { result.status ≡ Status.Write → Rose (K.faults sink.old) (K.faults sink.new) × DuePartOut (texts words.now) (S.left source.old) (K.held sink.old) (K.held sink.new) }
@@ -49,7 +50,7 @@ pub fn flight_alone<S: Source, K: Sink>(
     ensures memory { result.status ≡ Status.Memory → (K.held sink.new ≡ K.held sink.old) ⊎ DuePartOut (texts words.now) (S.left source.old) (K.held sink.old) (K.held sink.new) }
 
     // Words that are no command leave the source as it was.
-    ensures unread { texts words.now ≢ view_words → source.new ≡ source.old }
+    ensures unread { ¬ (IsView (texts words.now)) → source.new ≡ source.old }
 {
     match due_for(alloc, words, source) {
         Ok(due) => Told {

@@ -17,6 +17,8 @@ mod one_row;
 #[cfg(test)]
 mod tests;
 mod told;
+mod view;
+mod view_words;
 
 pub use alone::flight_alone;
 pub use told::{Status, Told};

@@ -1,6 +1,6 @@
 use Rattle.std.proofs.Common.{codes, ap, Err}
 use Rattle.flight_top.proofs.Dues.{too_long, due_line_of}
-use Rattle.flight_top.proofs.due.view.Goals as goal
+use Rattle.flight_top.proofs.view.view.Goals as goal
 
 pub returns-in-Err-TooLong-clause-due : goal.returns-in-Err-TooLong-clause-due
 returns-in-Err-TooLong-clause-due g c =
