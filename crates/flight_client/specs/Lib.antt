@@ -3,3 +3,4 @@ pub mod Faults
 pub mod Held
 pub mod Adding
 pub mod Meant
+pub mod OneReading
