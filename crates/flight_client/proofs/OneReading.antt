@@ -124,7 +124,7 @@ no_more is p q (unlinked kind) t i more h k stops g =
     let rows = one_placed is p a.before h.are_placed a.placed in
     let tree = tree-one Wire stops.next stops.tree a.here.tree stops.is_tree a.is_here.is_tree in
     let refused = subst (λ rs. IsRefused rs a.here.id a.here.tree.kind kind) rows
-      (subst (λ x. IsRefused p x a.here.tree.kind kind) (sym a.is_here.same_id) (subst (λ z. IsRefused p stops.next.id z.kind kind) tree stops.is_refused)) in
+    (subst (λ x. IsRefused p x a.here.tree.kind kind) (sym a.is_here.same_id) (subst (λ z. IsRefused p stops.next.id z.kind kind) tree stops.is_refused)) in
     linked_not_refused a.before a.here a.after kind (subst AreLinked a.split k.are_linked) refused
 
 pub record AreSame (is js : List Item) (p q : List PlacedRow) (s t : Stop) : Type 0 where
@@ -135,11 +135,11 @@ pub record AreSame (is js : List Item) (p q : List PlacedRow) (s t : Stop) : Typ
 pub one_reading : (text : List ℕ) (is js : List Item) (p q : List PlacedRow) (s t : Stop) → IsReading text is p s → IsReading text js q t → AreSame is js p q s t
 one_reading text is js p q s t a b =
     elim (compare is js a.front b.front a.tail b.tail a.spelled b.spelled (sym a.split ∙ b.split)) [
-      same e tails ↦
-        let rows = one_placed js p q (subst (λ x. ArePlaced x p) e a.have.are_placed) b.have.are_placed in
-        record { items = e; rows = rows; stops = one_stop b.tail q s t (subst (λ x. StopsHere x q s) tails (subst (λ x. StopsHere a.tail x s) rows a.stops)) b.stops }
-    | longer i more e g ↦ absurd (no_more is p q s a.tail i more a.have (subst (λ x. HaveRows x q) e b.have) a.stops g)
-    | shorter i more e g ↦ absurd (no_more js q p t b.tail i more b.have (subst (λ x. HaveRows x p) e a.have) b.stops g)
+      | same e tails ↦
+          let rows = one_placed js p q (subst (λ x. ArePlaced x p) e a.have.are_placed) b.have.are_placed in
+          record { items = e; rows = rows; stops = one_stop b.tail q s t (subst (λ x. StopsHere x q s) tails (subst (λ x. StopsHere a.tail x s) rows a.stops)) b.stops }
+      | longer i more e g ↦ absurd (no_more is p q s a.tail i more a.have (subst (λ x. HaveRows x q) e b.have) a.stops g)
+      | shorter i more e g ↦ absurd (no_more js q p t b.tail i more b.have (subst (λ x. HaveRows x p) e a.have) b.stops g)
     ]
 
 -- ---- rows so far, and faults

@@ -115,9 +115,9 @@ failed_more text piece feed old new arrived rest m f on a s =
     } in
     let have = have_more feed.number on.items at.before s.done old new on.have (sym at.is_done) s.adds in
     let before : on.items ++ a.items ≡ (on.items ++ at.before) ++ handed s.failed.row ∷ at.after =
-        ap (λ xs. on.items ++ xs) at.split ∙ sym (append_assoc on.items at.before (handed s.failed.row ∷ at.after)) in
+    ap (λ xs. on.items ++ xs) at.split ∙ sym (append_assoc on.items at.before (handed s.failed.row ∷ at.after)) in
     let one : on.items ++ a.items ≡ ((on.items ++ at.before) ++ handed s.failed.row ∷ []) ++ at.after =
-        before ∙ sym (append_assoc (on.items ++ at.before) (handed s.failed.row ∷ []) at.after) in
+    before ∙ sym (append_assoc (on.items ++ at.before) (handed s.failed.row ∷ []) at.after) in
     record {
       next = record {
         items = on.items ++ at.before;

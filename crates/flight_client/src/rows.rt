@@ -9,11 +9,7 @@ use flight_place::{Manner, PlaceFault, places};
 use std::alloc::Global;
 
 /// Places and links rows that came, in order, up to the first that fails. Each row's bytes are dropped with it.
-pub fn link_all(
-    alloc: Global,
-    links: &mut Links,
-    arrived: Vec<Arrived>,
-) -> Result<(), ClientFault>
+pub fn link_all(alloc: Global, links: &mut Links, arrived: Vec<Arrived>) -> Result<(), ClientFault>
     requires { All IsReadable arrived.items }
     ensures ok { OnOk result (Adds arrived.items links.old links.new) }
     ensures stops { IfErr result (StopsAt arrived.items links.old links.new) }

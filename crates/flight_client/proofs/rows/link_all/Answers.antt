@@ -20,7 +20,9 @@ loop-row-preserved c =
     let i = c.loop-row.invariant in
     record {
       readable = readable_rest c.in-Some.row (into_iter_items c.next.new.self) (subst (All IsReadable) e i.readable);
-      adds = (i.adds.0 ++ c.in-Some.row ∷ [],
-          i.adds.1 ∙ (ap (λ xs. i.adds.0 ++ xs) e ∙ sym (append_assoc i.adds.0 (c.in-Some.row ∷ []) (into_iter_items c.next.new.self))),
-          adds_more i.adds.0 (c.in-Some.row ∷ []) c.args.links.now c.loop-row.links c.link_row.new.links i.adds.2 c.in_ok-link_row.ensures.ok);
+      adds = (
+        i.adds.0 ++ c.in-Some.row ∷ [],
+        i.adds.1 ∙ (ap (λ xs. i.adds.0 ++ xs) e ∙ sym (append_assoc i.adds.0 (c.in-Some.row ∷ []) (into_iter_items c.next.new.self))),
+        adds_more i.adds.0 (c.in-Some.row ∷ []) c.args.links.now c.loop-row.links c.link_row.new.links i.adds.2 c.in_ok-link_row.ensures.ok,
+      );
     }
