@@ -1,24 +1,23 @@
 -- What rows mean stays when rows are added, where it was resolved.
-use Rattle.std.proofs.Common.{◌≡◌, ◌≢◌, ℕ, zero, suc, ◌⊎◌, inl, inr, Bool, true, false, is_some, if◌then◌else◌, List, [], ◌∷◌, ◌++◌, codes, Option, Some, None, option_and_then, slice_get, refl, sym, ap, ◌∙◌, subst}
+use Rattle.std.proofs.Common.{◌≡◌, ◌≢◌, ℕ, suc, ◌+◌, add-zero, length, arith, append-nil, append_assoc, inl, inr, Bool, is_some, if◌then◌else◌, List, [], ◌∷◌, ◌++◌, codes, Option, Some, None, option_and_then, slice_get, refl, sym, ap, ◌∙◌, subst}
 use Rattle.std.proofs.lemmas.Option.{none-some, same_Some}
 use Rattle.flight_value.specs.declared.graph.Atom.TheVariants as atom
+use Rattle.flight_value.specs.declared.graph.Flow.{Flow}
 use Rattle.flight_value.specs.Store as store
-use Rattle.flight_value.specs.Store.{Label, Shape, Target}
+use Rattle.flight_value.specs.Store.{Label, Shape, Target, FlowState}
 use Rattle.flight_text.specs.declared.mark.Ref.{Ref}
 use Rattle.flight_row.specs.declared.row.RowKind.{RowKind}
 use Rattle.flight_row.specs.declared.row.RowKind.TheVariants as row
 use Rattle.flight_place.specs.declared.place.Place.{Place}
 use Rattle.flight_place.specs.declared.place.Place.TheVariants as place
-use Rattle.flight_place.specs.declared.place.Named.{Named}
 use Rattle.flight_place.specs.declared.place.PlaceTree.{PlaceTree}
 use Rattle.flight_place.specs.declared.place.PlacedRow.{PlacedRow}
 use Rattle.flight_place.specs.Linked.{rows_of, Spot, place_at, first_place, beside}
-use Rattle.flight_place.specs.Resolve.{property, to, here, Found, found, stream, not_yet, nowhere, Ends, Endless}
-use Rattle.flight_place.specs.Meaning.{Written, Identity, made_at, promise_of, stream_of, action_of, Token, token_label, map_token, set_token, entry, both, entries, at_places, slots_in, slots_found, HasSlots, FailsWith, Reference, text_at, bound_at, reference_with, there, reference_in, reference_by, reference_of, FlowEnd, flowing, closed_with, broken_by, Flowed, with_row, flowed, state_of, node_here, HasTokenShape, HasShapeHere, opened, stream_shape, action_shape, HasShape, pending, TokenLeads, LeadsHere, IsTarget, stand_of, Leads}
+use Rattle.flight_place.specs.Resolve.{property, to, Found, found, stream, not_yet, nowhere}
+use Rattle.flight_place.specs.Meaning.{Written, Identity, made_at, promise_of, stream_of, action_of, Token, map_token, set_token, entry, both, entries, slots_in, HasSlots, FailsWith, Reference, text_at, bound_at, reference_with, there, reference_in, reference_by, reference_of, FlowEnd, flowing, closed_with, broken_by, Flowed, with_row, flowed, state_of, final_slots, HasShapeHere, opened, stream_shape, action_shape, HasShape, pending, TokenLeads, LeadsHere, IsTarget, stand_of, Leads}
 use Rattle.flight_place.specs.Good.{IsTokenDefined, IsDefined, IsHeld}
-use Rattle.flight_place.specs.Lasting.{HasEnded}
-use Rattle.flight_place.proofs.Walking.{found_stops, StopsAt}
-use Rattle.flight_place.proofs.MoreRows.{rows_of-append, rows_of-first, place-more, end-more, comes-more}
+use Rattle.flight_place.specs.Lasting.{HasEnded, HasGrown}
+use Rattle.flight_place.proofs.MoreRows.{rows_of-first, place-more, end-more, comes-more}
 
 -- ---- Maps and Sets
 
@@ -57,6 +56,7 @@ slots-more rows more token r slots (found s, w, h) = (found s, end-more rows mor
     none : (t : Token) → slots_in t rows s None ≡ Some slots → None ≡ Some slots
     none map_token h = h
     none set_token h = h
+
     go : (o : Option Place) → place_at rows s ≡ o → slots_in token rows s o ≡ Some slots → slots_in token (rows ++ more) s (place_at (rows ++ more) s) ≡ Some slots
     go None e h = absurd (none-some slots (none token h))
     go (Some at) e h = ap (slots_in token (rows ++ more) s) (place-more rows more s at e) ∙ slots_in-more token rows more s (Some at) slots h
@@ -141,6 +141,7 @@ opened-more (row.Open flow) a b shape same h ended = ap (opened (row.Open flow))
   where
     label : HasEnded (store.stream flow (state_of a.end))
     label = subst (λ (z : Shape Written). HasEnded z.label) (sym (same_Some _ shape h)) ended
+
     over : (e : FlowEnd) → HasEnded (store.stream flow (state_of e)) → IsOver e
     over flowing x = absurd x
     over (closed_with final) x = tt
@@ -236,3 +237,72 @@ defined-more rows more at h = h
 
 pub held-more : (rows more : List PlacedRow) (at : Place) → IsHeld rows at → IsHeld (rows ++ more) at
 held-more rows more at h = (h.0, place-more rows more h.0 at h.1)
+
+-- ---- a stream that still goes on
+
+-- a stream, and what followed
+abbrev pub joined : Flowed → Flowed → Flowed
+joined first rest = record { items = first.items ++ rest.items; end = rest.end }
+
+row-joined : (id n : ℕ) (kind : RowKind) (t : PlaceTree) (a b c : Flowed) → (a.end ≡ flowing → c ≡ joined a b) → (with_row id n kind t a).end ≡ flowing → with_row id n kind t c ≡ joined (with_row id n kind t a) b
+row-joined id n row.Error t a b c same still = cc
+row-joined id n row.Close t a b c same still = cc
+row-joined id n (row.Open flow) t a b c same still = same still
+row-joined id n row.Model t a b c same still = ap (λ z. with_row id n row.Model t z) (same still)
+row-joined id n row.Import t a b c same still = ap (λ z. with_row id n row.Import t z) (same still)
+row-joined id n row.Text t a b c same still = ap (λ z. with_row id n row.Text t z) (same still)
+
+pub flowed-append : (id n : ℕ) (ts us : List PlaceTree) → (flowed id n ts).end ≡ flowing → flowed id n (ts ++ us) ≡ joined (flowed id n ts) (flowed id (n + length ts) us)
+flowed-append id n [] us still = ap (λ k. flowed id k us) (sym (add-zero n))
+flowed-append id n (t ∷ ts) us still =
+    subst (λ k. flowed id n (t ∷ (ts ++ us)) ≡ joined (flowed id n (t ∷ ts)) (flowed id k us)) count
+    (row-joined id n t.kind t (flowed id (suc n) ts) (flowed id (suc n + length ts) us) (flowed id (suc n) (ts ++ us)) (flowed-append id (suc n) ts us) still)
+  where
+    count : suc n + length ts ≡ n + length (t ∷ ts)
+    count = omega arith
+
+-- what a row that opens a stream says of its shape
+opened_parts : (kind : RowKind) (a : Flowed) (flow : Flow) (state : FlowState) (slots : List Written) → opened kind a ≡ Some (record { label = store.stream flow state; slots = slots })
+    → (kind ≡ row.Open flow) × (state_of a.end ≡ state) × (a.items ++ final_slots a.end ≡ slots)
+opened_parts (row.Open f) a flow state slots h =
+    let same : ◌≡◌ {A = Shape Written} (record { label = store.stream f (state_of a.end); slots = a.items ++ final_slots a.end }) (record { label = store.stream flow state; slots = slots }) = same_Some _ _ h in
+    let label : store.stream f (state_of a.end) ≡ store.stream flow state = ap (λ (z : Shape Written). z.label) same in
+    let flows : f ≡ flow = cc in
+    let states : state_of a.end ≡ state = cc in
+    (ap row.Open flows, states, ap (λ (z : Shape Written). z.slots) same)
+opened_parts row.Model a flow state slots h = absurd (none-some _ h)
+opened_parts row.Import a flow state slots h = absurd (none-some _ h)
+opened_parts row.Error a flow state slots h = absurd (none-some _ h)
+opened_parts row.Text a flow state slots h = absurd (none-some _ h)
+opened_parts row.Close a flow state slots h = absurd (none-some _ h)
+
+grown-by : (kind : RowKind) (a b c : Flowed) (flow : Flow) (slots : List Written) → kind ≡ row.Open flow → c ≡ joined a b → a.end ≡ flowing → a.items ++ final_slots a.end ≡ slots
+    → opened kind c ≡ Some (record { label = store.stream flow (state_of b.end); slots = slots ++ (b.items ++ final_slots b.end) })
+grown-by kind a b c flow slots is_open is_joined still is_slots =
+    let front : a.items ≡ slots = sym (append-nil a.items) ∙ (ap (λ z. a.items ++ final_slots z) (sym still) ∙ is_slots) in
+    let all : (a.items ++ b.items) ++ final_slots b.end ≡ slots ++ (b.items ++ final_slots b.end) = append_assoc a.items b.items (final_slots b.end) ∙ ap (λ z. z ++ (b.items ++ final_slots b.end)) front in
+    ap (λ k. opened k c) is_open ∙ (ap (opened (row.Open flow)) is_joined ∙ ap (λ z. Some (record { label = store.stream flow (state_of b.end); slots = z })) all)
+
+-- a stream grows by slots behind its own, and may end
+pub stream-grows : (rows more : List PlacedRow) (id : ℕ) (flow : Flow) (state : FlowState) (slots : List Written) → HasShape rows (stream_of id) (record { label = store.stream flow state; slots = slots }) → HasGrown (rows ++ more) id flow slots
+stream-grows rows more id flow state slots h = go (rows_of id rows) refl h
+  where
+    over : HasEnded (store.stream flow state) → HasGrown (rows ++ more) id flow slots
+    over e = (state, [], subst (λ z. HasShape (rows ++ more) (stream_of id) (record { label = store.stream flow state; slots = z })) (sym (append-nil slots)) (shape-more rows more (stream_of id) (record { label = store.stream flow state; slots = slots }) e h))
+
+    by_end : (t : PlaceTree) (ts : List PlaceTree) → rows_of id rows ≡ t ∷ ts → t.kind ≡ row.Open flow → (e : FlowEnd) → (flowed id 1 ts).end ≡ e → state_of e ≡ state → (flowed id 1 ts).items ++ final_slots (flowed id 1 ts).end ≡ slots → HasGrown (rows ++ more) id flow slots
+    by_end t ts first is_open flowing is_end is_state is_slots =
+        let b = flowed id (1 + length ts) (rows_of id more) in (
+          state_of b.end,
+          b.items ++ final_slots b.end,
+          ap (stream_shape id) (rows_of-first id rows more t ts first)
+              ∙ grown-by t.kind (flowed id 1 ts) b (flowed id 1 (ts ++ rows_of id more)) flow slots is_open (flowed-append id 1 ts (rows_of id more) is_end) is_end is_slots,
+        )
+    by_end t ts first is_open (closed_with final) is_end is_state is_slots = over (subst (λ z. HasEnded (store.stream flow z)) is_state tt)
+    by_end t ts first is_open (broken_by digest) is_end is_state is_slots = over (subst (λ z. HasEnded (store.stream flow z)) is_state tt)
+
+    go : (ts : List PlaceTree) → rows_of id rows ≡ ts → stream_shape id ts ≡ Some (record { label = store.stream flow state; slots = slots }) → HasGrown (rows ++ more) id flow slots
+    go [] first h = absurd (none-some _ h)
+    go (t ∷ ts) first h =
+        let p = opened_parts t.kind (flowed id 1 ts) flow state slots h in
+        by_end t ts first p.0 (flowed id 1 ts).end refl p.1 p.2

@@ -1,5 +1,5 @@
 -- More rows: what was there stays, a walk goes the same way, and on where its id has come.
-use Rattle.std.proofs.Common.{◌≡◌, ℕ, zero, suc, ◌==◌, Bool, true, false, cond, inl, inr, List, [], ◌∷◌, ◌++◌, map, append_assoc, append-nil, Option, Some, None, option_and_then, slice_get, refl, sym, ap, ◌∙◌, subst}
+use Rattle.std.proofs.Common.{◌≡◌, ℕ, zero, suc, ◌==◌, Bool, true, false, cond, inl, inr, List, [], ◌∷◌, ◌++◌, map, append-nil, Option, Some, None, option_and_then, slice_get, refl, sym, ap, ◌∙◌, subst}
 use Rattle.std.proofs.lemmas.Option.{none-some, same_Some}
 use Rattle.std.proofs.lemmas.List.{map-append}
 use Rattle.std.proofs.lemmas.List.Elements.{filter-append}
@@ -11,8 +11,10 @@ use Rattle.flight_place.specs.declared.place.Place.{Place}
 use Rattle.flight_place.specs.declared.place.Place.TheVariants as place
 use Rattle.flight_place.specs.declared.place.PlaceTree.{PlaceTree}
 use Rattle.flight_place.specs.declared.place.PlacedRow.{PlacedRow}
-use Rattle.flight_place.specs.Linked.{is_of, rows_of, Standing, Verdict, goes, refused, next, after, standing_of, FollowOn, Spot, place_at, first_place, beside}
+use Rattle.flight_place.specs.Linked.{is_of, rows_of, Standing, Verdict, goes, refused, next, after, standing_of, FollowOn, Spot, place_at}
 use Rattle.flight_place.specs.Resolve.{Path, step, Stand, to, here, Found, found, stream, not_yet, nowhere, Turn, on, ends, end_at_stream, enter, go_to, go_down, go_on, go_from, turn, after_turn, walk_by, Ends, Endless, LeadsNowhere, IsEnd, ComesToAnEnd}
+pub use Rattle.flight_place.specs.Linked.{HasRowOf}
+pub use Rattle.flight_place.specs.Resolve.{IsThere}
 use Rattle.flight_place.proofs.Walking.{ends_back, ends_forth, endless_back, endless_forth, ends_alike, endless_alike, turn_ends}
 
 -- ---- the rows of an id
@@ -61,10 +63,6 @@ slice_get-front [] ys n x h = absurd (none-some x h)
 slice_get-front (z ∷ zs) ys zero x h = h
 slice_get-front (z ∷ zs) ys (suc n) x h = slice_get-front zs ys n x h
 
--- the row of the place is there
-abbrev pub HasRowOf : List PlacedRow → Spot → Type 0
-HasRowOf rows s = (t : PlaceTree) × (slice_get (rows_of s.id rows) s.nth ≡ Some t)
-
 pub row-more : (rows more : List PlacedRow) (s : Spot) (t : PlaceTree) → slice_get (rows_of s.id rows) s.nth ≡ Some t → slice_get (rows_of s.id (rows ++ more)) s.nth ≡ Some t
 row-more rows more s t e = ap (λ ts. slice_get ts s.nth) (rows_of-append s.id rows more) ∙ slice_get-front (rows_of s.id rows) (rows_of s.id more) s.nth t e
 
@@ -84,11 +82,6 @@ pub place-more : (rows more : List PlacedRow) (s : Spot) (at : Place) → place_
 place-more rows more s at e = places-stay rows more s (place_row rows s at e) ∙ e
 
 -- ---- a turn over more rows
-
--- the row in which the walk stands is there
-abbrev pub IsThere : List PlacedRow → Stand → Type 0
-IsThere rows (to id path) = Unit {0}
-IsThere rows (here s path) = HasRowOf rows s
 
 -- the turn over more rows, by the turn over fewer: the same, but where no row was
 abbrev pub TurnsOn : List PlacedRow → Type 0 → Turn → Turn → Type 0
@@ -173,6 +166,7 @@ waited_by (suc n) rows more s id path h = go (turn rows s) (turn-more rows more 
   where
     at_id : (e : Found) → TurnsOn (rows ++ more) (IsThere rows s) (ends e) (turn (rows ++ more) s) → e ≡ not_yet id path → turn (rows ++ more) s ≡ turn (rows ++ more) (to id path)
     at_id e turns same = subst (λ z. TurnsOn (rows ++ more) (IsThere rows s) (ends z) (turn (rows ++ more) s)) same turns
+
     go : (t : Turn) → TurnsOn (rows ++ more) (IsThere rows s) t (turn (rows ++ more) s) → after_turn (walk_by n rows) t ≡ Some (not_yet id path) → ((t : Stand) → walk_by n rows t ≡ Some (not_yet id path) → GoAlike (rows ++ more) t (to id path)) → GoAlike (rows ++ more) s (to id path)
     go (on t) turns x rest = alike_on (rows ++ more) s t (to id path) turns (rest t x)
     go (ends e) turns x rest = alike_turn (rows ++ more) s (to id path) (at_id e turns (same_Some e (not_yet id path) x))
@@ -190,6 +184,7 @@ end_by (suc n) rows more s f is h = go (turn rows s) (turn-more rows more s) h (
     last (stream id) turns is = turns
     last (not_yet id path) turns is = absurd is
     last nowhere turns is = absurd is
+
     go : (t : Turn) → TurnsOn (rows ++ more) (IsThere rows s) t (turn (rows ++ more) s) → after_turn (walk_by n rows) t ≡ Some f → ((t : Stand) → walk_by n rows t ≡ Some f → Ends (rows ++ more) t f) → Ends (rows ++ more) s f
     go (on t) turns x rest = ends_back (rows ++ more) s t turns f (rest t x)
     go (ends e) turns x rest =
@@ -240,6 +235,7 @@ nowhere_by (suc n) rows more s there h = go (turn rows s) (there_turn rows s the
   where
     last : (e : Found) → TurnsOn (rows ++ more) (IsThere rows s) (ends e) (turn (rows ++ more) s) → e ≡ nowhere → Ends (rows ++ more) s nowhere
     last e turns same = turn_ends (rows ++ more) s nowhere (subst (λ z. TurnsOn (rows ++ more) (IsThere rows s) (ends z) (turn (rows ++ more) s)) same turns there)
+
     go : (t : Turn) → IsThereBy rows t → TurnsOn (rows ++ more) (IsThere rows s) t (turn (rows ++ more) s) → after_turn (walk_by n rows) t ≡ Some nowhere → ((t : Stand) → IsThere rows t → walk_by n rows t ≡ Some nowhere → Ends (rows ++ more) t nowhere) → Ends (rows ++ more) s nowhere
     go (on t) is turns x rest = ends_back (rows ++ more) s t turns nowhere (rest t is x)
     go (ends e) is turns x rest = last e turns (same_Some e nowhere x)

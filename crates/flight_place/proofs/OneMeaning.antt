@@ -1,5 +1,5 @@
 -- What rows mean is one: each slot leads to one target, and under each identity stands one node.
-use Rattle.std.proofs.Common.{◌≡◌, ℕ, ◌⊎◌, inl, inr, is_some, List, [], ◌∷◌, Option, Some, None, option_and_then, refl, sym, ap, ◌∙◌, subst}
+use Rattle.std.proofs.Common.{◌≡◌, ℕ, inl, inr, List, Option, Some, None, refl, sym, ap, ◌∙◌, subst}
 use Rattle.std.proofs.lemmas.Option.{none-some, same_Some}
 use Rattle.flight_value.specs.declared.graph.Atom.TheVariants as atom
 use Rattle.flight_value.specs.Store as store
@@ -8,9 +8,9 @@ use Rattle.flight_text.specs.declared.mark.Ref.{Ref}
 use Rattle.flight_place.specs.declared.place.Place.{Place}
 use Rattle.flight_place.specs.declared.place.Place.TheVariants as place
 use Rattle.flight_place.specs.declared.place.PlacedRow.{PlacedRow}
-use Rattle.flight_place.specs.Linked.{rows_of, Spot, place_at}
-use Rattle.flight_place.specs.Resolve.{to, Found, found, stream, not_yet, nowhere, Ends, Endless}
-use Rattle.flight_place.specs.Meaning.{Written, Identity, made_at, promise_of, stream_of, action_of, Token, token_label, map_token, set_token, slots_in, slots_found, HasSlots, FailsWith, node_here, HasShapeHere, stream_shape, action_shape, reference_of, HasShape, pending, TokenLeads, LeadsHere, IsTarget, stand_of, Leads, meaning}
+use Rattle.flight_place.specs.Linked.{Spot, place_at}
+use Rattle.flight_place.specs.Resolve.{to, Found, found, stream, not_yet, nowhere}
+use Rattle.flight_place.specs.Meaning.{Written, Identity, made_at, promise_of, stream_of, action_of, Token, token_label, map_token, set_token, slots_in, slots_found, HasSlots, FailsWith, HasShapeHere, HasShape, TokenLeads, LeadsHere, IsTarget, stand_of, Leads}
 use Rattle.flight_place.proofs.Walking.{one_end, not_endless}
 
 -- ---- Maps and Sets

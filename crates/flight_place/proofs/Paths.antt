@@ -9,9 +9,9 @@ use Rattle.flight_place.specs.declared.place.Place.TheVariants as place
 use Rattle.flight_place.specs.declared.place.PlaceTree.{PlaceTree}
 use Rattle.flight_text.specs.declared.mark.Ref.{Ref}
 use Rattle.flight_place.specs.declared.place.PlacedRow.{PlacedRow}
-use Rattle.flight_place.specs.Linked.{rows_of, Spot, place_at, first_place, beside}
+use Rattle.flight_place.specs.Linked.{rows_of, Spot, place_at, first_place}
 use Rattle.flight_place.specs.Resolve.{Path, step, Stand, to, here, Found, found, stream, not_yet, nowhere, Turn, on, ends, end_at_stream, enter, go_to, go_down, go_on, go_from, turn, after_turn, walk_by, Ends, Endless}
-use Rattle.flight_place.proofs.Walking.{EndsAfter, EndlessAfter, IsOpened, turn_back, ends_back, ends_turned, one_walk, one_end, not_endless, within_turns}
+use Rattle.flight_place.proofs.Walking.{EndsAfter, EndlessAfter, IsOpened, turn_back, ends_back, one_walk, within_turns}
 
 -- the stand with more steps behind its own
 abbrev pub longer : Stand → Path → Stand
@@ -88,6 +88,7 @@ longer_by (suc n) rows s more f g h w =
     last (stream id) turns x = (suc x.0, ap (after_turn (walk_by x.0 rows)) turns ∙ x.1)
     last (not_yet id path) turns x = (suc x.0, ap (after_turn (walk_by x.0 rows)) turns ∙ x.1)
     last nowhere turns x = (suc x.0, ap (after_turn (walk_by x.0 rows)) turns ∙ x.1)
+
     go : (t : Turn) → turn rows (longer s more) ≡ turned rows t more → after_turn (walk_by n rows) t ≡ Some f → ((t : Stand) → walk_by n rows t ≡ Some f → EndsAfter rows (onward f more) g → Ends rows (longer t more) g) → Ends rows (longer s more) g
     go (on t) turns x rest = ends_back rows (longer s more) (longer t more) turns g (rest t x w)
     go (ends e) turns x rest = last e turns (subst (λ z. EndsAfter rows (onward z more) g) (sym (same_Some e f x)) w)
@@ -116,11 +117,13 @@ front_by (suc n) rows s more g h =
   where
     first : (e : Found) → turn rows s ≡ ends e → after_turn (walk_by (suc n) rows) (onward e more) ≡ Some g → HasFront (suc n) rows s more g
     first e turns x = record { turns = 1; within = omega arith; front = e; walks = ap (after_turn (walk_by 0 rows)) turns; rest = x }
+
     last : (e : Found) → turn rows s ≡ ends e → after_turn (walk_by n rows) (turned rows (ends e) more) ≡ Some g → HasFront (suc n) rows s more g
     last (found t) turns x = first (found t) turns x
     last (stream id) turns x = first (stream id) turns x
     last (not_yet id path) turns x = first (not_yet id path) turns x
     last nowhere turns x = first nowhere turns x
+
     go : (t : Turn) → turn rows s ≡ t → after_turn (walk_by n rows) (turned rows t more) ≡ Some g → ((t : Stand) → walk_by n rows (longer t more) ≡ Some g → HasFront n rows t more g) → HasFront (suc n) rows s more g
     go (on t) turns x rest =
         let r = rest t x in
@@ -202,6 +205,7 @@ entered_turn rows id path entered = go (rows_of id rows) entered
     kind : (k : RowKind) → IsEnteredKind k → enter id k path ≡ on (here (first_place id) path)
     kind (row.Open flow) e = absurd e
     kind k e = refl
+
     go : (ts : List PlaceTree) → IsEntered ts → go_to id ts path ≡ on (here (first_place id) path)
     go [] e = absurd e
     go (t ∷ ts) e = kind t.kind e

@@ -8,8 +8,9 @@ use Rattle.flight_place.specs.declared.place.Place.{Place}
 use Rattle.flight_place.specs.declared.place.Place.TheVariants as place
 use Rattle.flight_place.specs.declared.place.PlaceTree.{PlaceTree}
 use Rattle.flight_place.specs.declared.place.PlacedRow.{PlacedRow}
-use Rattle.flight_place.specs.Linked.{rows_of, Spot, place_at, first_place, beside}
+use Rattle.flight_place.specs.Linked.{rows_of, Spot, place_at}
 use Rattle.flight_place.specs.Resolve.{Path, step, Stand, to, here, Found, found, stream, not_yet, nowhere, Turn, on, ends, end_at_stream, enter, go_to, go_down, go_on, go_from, turn, after_turn, walk_by, Ends, Endless}
+pub use Rattle.flight_place.specs.Resolve.{IsStop, StopsAt}
 
 -- ---- turns
 
@@ -94,15 +95,6 @@ pub not_endless : (rows : List PlacedRow) (s : Stand) (f : Found) → Ends rows 
 not_endless rows s f a w = none-some f (sym (w a.0) ∙ a.1)
 
 -- ---- what stands at an end
-
--- no walk goes on from such a place with no step left
-abbrev pub IsStop : Place → Type 0
-IsStop (place.Lazy id) = ⊥
-IsStop (place.Value at) = ⊥
-IsStop at = Unit {0}
-
-abbrev pub StopsAt : List PlacedRow → Spot → Type 0
-StopsAt rows s = (at : Place) × (place_at rows s ≡ Some at) × IsStop at
 
 -- the first row of the id opened a stream
 abbrev pub IsOpened : List PlaceTree → Type 0

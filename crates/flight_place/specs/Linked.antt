@@ -1,7 +1,6 @@
 -- The rows of one id, how an id stands, and the places of rows.
 use Rattle.std.specs.Prelude.{ℕ, ◌==◌, ◌≡◌, Bool, List, [], ◌∷◌, map, Option, Some, None, option_and_then, slice_get}
 use Rattle.std.specs.List.{filter}
-use Rattle.flight_value.specs.declared.graph.Flow.{Flow}
 use Rattle.flight_row.specs.declared.row.RowKind.{RowKind}
 use Rattle.flight_row.specs.declared.row.RowKind.TheVariants as row
 use Rattle.flight_place.specs.declared.place.Place.{Place}
@@ -85,3 +84,7 @@ first_place id = record { id = id; nth = 0; at = 0 }
 -- another place of the same row
 abbrev pub beside : Spot → ℕ → Spot
 beside s at = record { id = s.id; nth = s.nth; at = at }
+
+-- the row of the place is there
+abbrev pub HasRowOf : List PlacedRow → Spot → Type 0
+HasRowOf rows s = (t : PlaceTree) × (slice_get (rows_of s.id rows) s.nth ≡ Some t)

@@ -97,8 +97,8 @@ there rows s n = place_at rows (beside s n)
 abbrev pub reference_in : List PlacedRow → Spot → Option Place → Option Reference
 reference_in rows s (Some (place.Object props)) =
     reference_with
-      (option_and_then (λ n. text_at (there rows s n)) (property props (codes "id")))
-      (option_and_then (λ n. bound_at (beside s n) (there rows s n)) (property props (codes "bound")))
+    (option_and_then (λ n. text_at (there rows s n)) (property props (codes "id")))
+    (option_and_then (λ n. bound_at (beside s n) (there rows s n)) (property props (codes "bound")))
 reference_in rows s at = None
 
 -- by the first row of the id, which is a model

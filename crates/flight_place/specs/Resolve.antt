@@ -2,7 +2,6 @@
 use Rattle.std.specs.Prelude.{ℕ, zero, suc, ◌≡◌, ◌⊎◌, List, [], ◌∷◌, ◌++◌, if◌then◌else◌, codes, Option, Some, None}
 use Rattle.std.specs.Fmt.{decimal}
 use Rattle.std.specs.Str.{bytes_eq}
-use Rattle.flight_value.specs.declared.graph.Atom.{Atom}
 use Rattle.flight_value.specs.declared.graph.Atom.TheVariants as atom
 use Rattle.flight_row.specs.declared.row.RowKind.{RowKind}
 use Rattle.flight_row.specs.declared.row.RowKind.TheVariants as row
@@ -11,7 +10,7 @@ use Rattle.flight_place.specs.declared.place.Place.TheVariants as place
 use Rattle.flight_place.specs.declared.place.Named.{Named}
 use Rattle.flight_place.specs.declared.place.PlaceTree.{PlaceTree}
 use Rattle.flight_place.specs.declared.place.PlacedRow.{PlacedRow}
-use Rattle.flight_place.specs.Linked.{rows_of, Spot, place_at, first_place, beside}
+use Rattle.flight_place.specs.Linked.{rows_of, Spot, place_at, first_place, beside, HasRowOf}
 
 -- the names of steps
 abbrev pub Path : Type 0
@@ -132,3 +131,21 @@ IsEnd nowhere = ⊥
 
 abbrev pub ComesToAnEnd : List PlacedRow → Stand → Type 0
 ComesToAnEnd rows s = (f : Found) × Ends rows s f × IsEnd f
+
+-- no lazy and no value reference: no walk goes on from there with no step left
+abbrev pub IsStop : Place → Type 0
+IsStop (place.Lazy id) = ⊥
+IsStop (place.Value at) = ⊥
+IsStop at = Unit {0}
+
+abbrev pub StopsAt : List PlacedRow → Spot → Type 0
+StopsAt rows s = (at : Place) × (place_at rows s ≡ Some at) × IsStop at
+
+-- the row in which the walk stands is there
+abbrev pub IsThere : List PlacedRow → Stand → Type 0
+IsThere rows (to id path) = Unit {0}
+IsThere rows (here s path) = HasRowOf rows s
+
+-- the walk waits for no row: it ends otherwise, or never
+abbrev pub WaitsForNone : List PlacedRow → Stand → Type 0
+WaitsForNone rows s = (id : ℕ) (path : Path) → ¬ (Ends rows s (not_yet id path))

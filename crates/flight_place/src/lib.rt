@@ -20,6 +20,9 @@ mod walk;
 mod whole;
 
 pub use fault::{PlaceFault, PlaceKind};
-pub use law::{names_ascend, numbers_lead_to_places, one_tree};
+pub use law::{
+    names_ascend, numbers_lead_to_places, one_end, one_meaning, one_tree, pairs_stay,
+    resolved_stays, steps_go_on, walks_on,
+};
 pub use place::{Manner, Named, Place, PlaceTree, PlacedRow};
 pub use tree::places;
