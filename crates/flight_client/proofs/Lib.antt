@@ -6,3 +6,4 @@ pub mod Compared
 pub mod Refusals
 pub mod OneReading
 pub mod OneEnd
+pub mod Shown

@@ -4,3 +4,4 @@ pub mod Held
 pub mod Adding
 pub mod Meant
 pub mod OneReading
+pub mod AnyPrefix

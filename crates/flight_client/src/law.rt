@@ -1,4 +1,9 @@
 ghost use Rattle.std.specs.Prelude.{ℕ, List};
+ghost use Rattle.flight_value.specs.Store.{DrawOneGraph, of_graph};
+ghost use Rattle.flight_value.specs.declared.graph.Graph.{Graph};
+ghost use Rattle.flight_place.specs.declared.place.PlacedRow.{PlacedRow};
+ghost use Rattle.flight_place.specs.Meaning.{meaning};
+ghost use Rattle.flight_client.specs.AnyPrefix.{ShowsAlike};
 ghost use Rattle.flight_client.specs.OneReading.{HasOneReading, HasOneEnd};
 
 /// A law, which does nothing: a stream has one reading, whatever the pieces in which it comes. What has come of it is
@@ -7,4 +12,9 @@ ghost use Rattle.flight_client.specs.OneReading.{HasOneReading, HasOneEnd};
 pub fn one_reading()
     ensures so_far { (text : List ℕ) → HasOneReading text }
     ensures ended { (text : List ℕ) → HasOneEnd text }
+{}
+
+/// A law: at each path a graph of the rows has what a look shows there, the same atom or a node of the same kind.
+pub fn partial_as_seen()
+    ensures { (rows : List PlacedRow) (g : Graph) → DrawOneGraph (of_graph g) (meaning rows) → ShowsAlike rows g }
 {}

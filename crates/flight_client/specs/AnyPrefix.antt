@@ -1,0 +1,24 @@
+-- What a client shows while a stream arrives.
+use Rattle.std.specs.Prelude.{ℕ, ◌≡◌, List, ◌++◌, Option, Some}
+use Rattle.flight_value.specs.Store as store
+use Rattle.flight_value.specs.Store.{label_of, DrawOneGraph, of_graph}
+use Rattle.flight_value.specs.declared.graph.Slot.{Slot}
+use Rattle.flight_value.specs.declared.graph.Slot.TheVariants as slot
+use Rattle.flight_value.specs.declared.graph.Node.{Node}
+use Rattle.flight_value.specs.declared.graph.Graph.{Graph}
+use Rattle.flight_graph.specs.Canon.{node_at}
+use Rattle.flight_graph.specs.Look.{slot_along}
+use Rattle.flight_place.specs.declared.place.PlacedRow.{PlacedRow}
+use Rattle.flight_place.specs.Meaning.{meaning}
+use Rattle.flight_link.specs.Looking.{Sight, sees_atom, sees_node, awaits, no_place, Shows}
+
+-- the slot of a graph holds what is seen: the atom, or a node of the same kind, with the same names, id and end; of what
+-- is not there yet, or never, nothing is said
+abbrev pub Holds : List Node → Sight → Option Slot → Type 0
+Holds nodes (sees_atom value) o = o ≡ Some (slot.Atom value)
+Holds nodes (sees_node label node) o = (n : ℕ) × (o ≡ Some (slot.Node n)) × (label_of (node_at nodes n) ≡ label)
+Holds nodes sight o = Unit {0}
+
+-- a graph of the rows has at each path what a look shows there
+abbrev pub ShowsAlike : List PlacedRow → Graph → Type 0
+ShowsAlike rows g = (path : List ℕ) (sight : Sight) → Shows rows path sight → Holds g.nodes sight (slot_along g.nodes g.root path)
