@@ -7,3 +7,4 @@ pub mod Refusals
 pub mod OneReading
 pub mod OneEnd
 pub mod Shown
+pub mod Lasting

@@ -1,9 +1,10 @@
-ghost use Rattle.std.specs.Prelude.{ℕ, List};
+ghost use Rattle.std.specs.Prelude.{ℕ, List, ◌++◌};
 ghost use Rattle.flight_value.specs.Store.{DrawOneGraph, of_graph};
 ghost use Rattle.flight_value.specs.declared.graph.Graph.{Graph};
 ghost use Rattle.flight_place.specs.declared.place.PlacedRow.{PlacedRow};
-ghost use Rattle.flight_place.specs.Meaning.{meaning};
-ghost use Rattle.flight_client.specs.AnyPrefix.{ShowsAlike};
+ghost use Rattle.flight_place.specs.Meaning.{Written, meaning};
+ghost use Rattle.flight_link.specs.Looking.{Sight, Sees};
+ghost use Rattle.flight_client.specs.AnyPrefix.{Lasts, ShowsAlike};
 ghost use Rattle.flight_client.specs.OneReading.{HasOneReading, HasOneEnd};
 
 /// A law, which does nothing: a stream has one reading, whatever the pieces in which it comes. What has come of it is
@@ -17,4 +18,9 @@ pub fn one_reading()
 /// A law: at each path a graph of the rows has what a look shows there, the same atom or a node of the same kind.
 pub fn partial_as_seen()
     ensures { (rows : List PlacedRow) (g : Graph) → DrawOneGraph (of_graph g) (meaning rows) → ShowsAlike rows g }
+{}
+
+/// A law: what a look showed stays.
+pub fn sights_last()
+    ensures { (rows more : List PlacedRow) (path : List ℕ) (w : Written) (sight : Sight) → Sees rows w path sight → Lasts (rows ++ more) w path sight }
 {}
