@@ -8,3 +8,5 @@ pub mod OneReading
 pub mod OneEnd
 pub mod Shown
 pub mod Lasting
+pub mod Marks
+pub mod Labels

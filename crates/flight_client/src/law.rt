@@ -4,7 +4,7 @@ ghost use Rattle.flight_value.specs.declared.graph.Graph.{Graph};
 ghost use Rattle.flight_place.specs.declared.place.PlacedRow.{PlacedRow};
 ghost use Rattle.flight_place.specs.Meaning.{Written, meaning};
 ghost use Rattle.flight_link.specs.Looking.{Sight, Sees};
-ghost use Rattle.flight_client.specs.AnyPrefix.{Lasts, ShowsAlike};
+ghost use Rattle.flight_client.specs.AnyPrefix.{LabelsStay, Lasts, ShowsAlike};
 ghost use Rattle.flight_client.specs.OneReading.{HasOneReading, HasOneEnd};
 
 /// A law, which does nothing: a stream has one reading, whatever the pieces in which it comes. What has come of it is
@@ -20,7 +20,8 @@ pub fn partial_as_seen()
     ensures { (rows : List PlacedRow) (g : Graph) → DrawOneGraph (of_graph g) (meaning rows) → ShowsAlike rows g }
 {}
 
-/// A law: what a look showed stays.
-pub fn sights_last()
-    ensures { (rows more : List PlacedRow) (path : List ℕ) (w : Written) (sight : Sight) → Sees rows w path sight → Lasts (rows ++ more) w path sight }
+/// A law: what a look showed stays when more rows come, and its label keeps its mark.
+pub fn labels_stay()
+    ensures sights { (rows more : List PlacedRow) (path : List ℕ) (w : Written) (sight : Sight) → Sees rows w path sight → Lasts (rows ++ more) w path sight }
+    ensures labels { (rows more : List PlacedRow) → LabelsStay rows more }
 {}
