@@ -7,4 +7,5 @@ pub mod Rebuilt
 pub mod Renamed
 pub mod Rows
 pub mod Same
+pub mod Slots
 pub mod Walks

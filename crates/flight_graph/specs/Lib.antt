@@ -1,4 +1,5 @@
 pub mod Canon
+pub mod Look
 pub mod Text
 pub mod Walk
 pub mod Writing

@@ -17,17 +17,23 @@
 //! stack grows with the graph.
 #![tactic(auto)]
 
+mod equal;
 mod escape;
+mod label;
 mod law;
 mod print;
 mod rename;
+mod sight;
 #[cfg(test)]
 mod tests;
 #[cfg(test)]
 mod valid;
 mod walk;
 
+pub use equal::alike;
 pub use escape::write_string;
+pub use label::{Kind, Label};
 pub use law::{canon_is_valid, same_by_pairs};
 pub use print::canon_text;
 pub use rename::canon;
+pub use sight::look;

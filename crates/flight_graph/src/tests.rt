@@ -1,5 +1,7 @@
+ghost use Rattle.flight_value.specs.Graph.{IsValid};
+
 use crate::valid::is_valid;
-use crate::{canon, canon_text, write_string};
+use crate::{Kind, Label, alike, canon, canon_text, look, write_string};
 use flight_value::{Atom, Constant, End, Flow, Graph, List, Memory, Node, Prop, Slot, Text};
 use std::alloc::Global;
 use std::test::Fail;
@@ -182,6 +184,62 @@ fn escapes_texts(rt: HostRuntime) -> Result<(), Fail> {
         let mut out = String::new(rt.alloc());
         write_string(&mut out, text)?;
         assert_eq!(rt; out.as_str(), json);
+    }
+    Ok(())
+}
+
+/// An array of these nodes, and two empty objects behind it.
+fn array_of(alloc: Global, numbers: &[u32]) -> Result<Graph, Memory> {
+    let mut nodes = Vec::new(alloc);
+    nodes.push(Node::Array(named(alloc, numbers)?))?;
+    nodes.push(Node::Object(List::new(Vec::new(alloc))))?;
+    nodes.push(Node::Object(List::new(Vec::new(alloc))))?;
+    Ok(graph(0, nodes))
+}
+
+#[test]
+fn tells_sharing(rt: HostRuntime) -> Result<(), Fail> {
+    let shared = array_of(rt.alloc(), [1, 1].as_slice())?;
+    let same = array_of(rt.alloc(), [2, 2].as_slice())?;
+    let distinct = array_of(rt.alloc(), [1, 2].as_slice())?;
+    assert!(rt; is_valid(&shared) && is_valid(&same) && is_valid(&distinct));
+    assert!(rt; alike(rt.alloc(), &shared, &same)?);
+    assert!(rt; !alike(rt.alloc(), &shared, &distinct)?);
+    Ok(())
+}
+
+/// Whether a path shows a node of this kind and mark.
+fn shows(graph: &Graph, path: &[u32], kind: Kind, mark: u32) -> bool
+    requires { IsValid graph.now }
+{
+    match look(graph, path) {
+        Some(
+            Label::Node {
+                kind: found,
+                mark: at,
+            },
+        ) => found == kind && at == mark,
+        _ => false,
+    }
+}
+
+#[test]
+fn looks_along_paths(rt: HostRuntime) -> Result<(), Fail> {
+    let kinds = graph(0, kinds(rt.alloc())?);
+    assert!(rt; is_valid(&kinds));
+    assert!(rt; shows(&kinds, [].as_slice(), Kind::Array, 0));
+    assert!(rt; shows(&kinds, [1].as_slice(), Kind::Stream, 2));
+    assert!(rt; shows(&kinds, [1, 0, 3, 0].as_slice(), Kind::Promise, 4));
+    assert!(rt; shows(&kinds, [6, 2, 1].as_slice(), Kind::Object, 8));
+    let last = look(&kinds, [1, 1].as_slice());
+    assert!(rt; matches!(last, Some(Label::Atom(Atom::Undefined))));
+    for path in [
+        [9].as_slice(),
+        [1, 2].as_slice(),
+        [1, 1, 0].as_slice(),
+        [8, 0].as_slice(),
+    ] {
+        assert!(rt; look(&kinds, path).is_none());
     }
     Ok(())
 }
