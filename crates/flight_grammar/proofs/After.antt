@@ -1,10 +1,10 @@
 -- What continues an expression.
-use Rattle.std.proofs.Common.{◌≡◌, ℕ, zero, suc, ◌==◌, Bool, true, false, cond, List, [], ◌∷◌, Option, Some, None, refl, sym, ap, subst, ◌∙◌}
+use Rattle.std.proofs.Common.{◌≡◌, ℕ, Bool, true, false, Option, Some, None, refl, ap, ◌∙◌}
 use Rattle.flight_syntax.specs.declared.word.Keyword.{Keyword}
 use Rattle.flight_syntax.specs.declared.word.Keyword.TheVariants.{With}
 use Rattle.flight_syntax.specs.declared.word.Punctuator.{Punctuator}
 use Rattle.flight_syntax.specs.declared.word.Punctuator.TheVariants.{Dot, OpenBracket}
-use Rattle.flight_syntax.specs.Lexicon.{Word, key, mark, deep, beyond, is_key, is_mark, operator_of}
+use Rattle.flight_syntax.specs.Lexicon.{Word, key, mark, beyond, is_key, is_mark}
 use Rattle.flight_syntax.specs.Tree.{Tree, let_in, if_else, for_in, throw, action, too_deep, too_many}
 use Rattle.flight_grammar.specs.Reading.{is_some, at}
 use Rattle.flight_grammar.specs.Reader.{starts_post}

@@ -1,24 +1,24 @@
 -- Atoms: what each is spelled by, by its first word, and back.
-use Rattle.std.proofs.Common.{◌≡◌, ℕ, zero, suc, Bool, true, false, cond, ◌⊎◌, inl, inr, List, [], ◌∷◌, ◌++◌, Option, Some, None, Result, Ok, Err, refl, sym, ap, subst, ◌∙◌, append_assoc}
+use Rattle.std.proofs.Common.{◌≡◌, ℕ, suc, Bool, ◌⊎◌, inl, inr, List, [], ◌∷◌, ◌++◌, Option, Some, None, refl, sym, ap, subst, ◌∙◌}
 use Rattle.std.proofs.lemmas.List.{append-nil}
 use Rattle.flight_value.specs.declared.graph.Atom.{Atom}
 use Rattle.flight_syntax.specs.declared.word.Keyword.{Keyword}
 use Rattle.flight_syntax.specs.declared.word.Keyword.TheVariants.{Date, Symbol, Map, Set, Use, Promise, Stream, Action, With}
 use Rattle.flight_syntax.specs.declared.word.Punctuator.{Punctuator}
-use Rattle.flight_syntax.specs.declared.word.Punctuator.TheVariants.{OpenParen, CloseParen, OpenBracket, CloseBracket, OpenBrace, CloseBrace, Minus, Less, Greater, LessSlash, SlashGreater, Assign}
+use Rattle.flight_syntax.specs.declared.word.Punctuator.TheVariants.{OpenParen, CloseParen, OpenBracket, CloseBracket, OpenBrace, Minus, Less, Greater, LessSlash, SlashGreater, Assign}
 use Rattle.flight_syntax.specs.declared.expr.Op.{Op}
-use Rattle.flight_syntax.specs.Lexicon.{Word, key, lower, upper, mark, Placed, U, Phrase, ◌▸◌, nothing, one, is_key, is_mark, keyword, sign, name_of, lower_of, upper_of, plain_of, is_plain, constant_of, negative_of, date_of, symbol_of, operator_of}
-use Rattle.flight_syntax.specs.Tree.{Tree, Trees, TreeProps, let_in, if_else, for_in, throw, member, index, atom, variable, client, array, object, map, set, source, promise, stream, action, action_with, paren, binary, element, too_deep, too_many, no_trees, tree_and, no_props, prop_and, trees_of, props_of, pairs_of, postfixes, IsBase, IsElement, joined}
+use Rattle.flight_syntax.specs.Lexicon.{Word, key, lower, upper, mark, Placed, U, Phrase, ◌▸◌, one, is_key, is_mark, keyword, sign, name_of, lower_of, plain_of, is_plain, constant_of, negative_of, date_of, symbol_of, operator_of}
+use Rattle.flight_syntax.specs.Tree.{Tree, Trees, TreeProps, let_in, if_else, for_in, throw, member, index, atom, variable, client, array, object, map, set, source, promise, stream, action, action_with, paren, binary, element, too_deep, too_many, no_trees, tree_and, no_props, prop_and, trees_of, props_of, pairs_of}
 use Rattle.flight_syntax.specs.Grammar.{Spells, Constant, Listed, Attributes, AttributeName, Children}
-use Rattle.flight_grammar.specs.Reading.{Reader, Arm, at, stop, limit, go, want, done, both, made, behind}
-use Rattle.flight_grammar.specs.Reader.{items, entries, action_of, paren_of, inside_of, element_of, attribute_of, action_rest, paren_rest, properties, element_rest, constant_arm, atom_arm}
-use Rattle.flight_grammar.proofs.Exact.{IsMeek, Exact, none, never, meek_none}
-use Rattle.flight_grammar.proofs.Parts.{Just, exact_done_on, exact_spelled, Seq, Image, exact_made, ByWord, IsArm, meek_at, exact_want}
-use Rattle.flight_grammar.proofs.Choices.{Or, Lead, Trail, after_word}
+use Rattle.flight_grammar.specs.Reading.{Reader, at, want, behind}
+use Rattle.flight_grammar.specs.Reader.{items, entries, action_of, paren_of, element_of, action_rest, paren_rest, properties, element_rest, constant_arm, atom_arm}
+use Rattle.flight_grammar.proofs.Exact.{IsMeek, none, never, meek_none}
+use Rattle.flight_grammar.proofs.Parts.{Just, exact_done_on, exact_spelled, Image, exact_made, ByWord, IsArm, meek_at, exact_want}
+use Rattle.flight_grammar.proofs.Choices.{Lead, after_word}
 use Rattle.flight_grammar.proofs.Many.{Many}
 use Rattle.flight_grammar.proofs.Terminals.{key_is, mark_is, lower_is, upper_is, the_key, the_mark, a_plain, a_negative, a_date, a_symbol}
-use Rattle.flight_grammar.proofs.Listed.{E, regroup, ungroup, Part, parts_spell, parts_back, trees_of_spell, trees_of_back, props_of_spell, props_of_back, pairs_of_spell, pairs_of_back}
-use Rattle.flight_grammar.proofs.Productions.{Below, Items, items_part, Props, properties_part, Pairs, entries_part, on_with, WithRest, ActionRest, action_part, Operand, ParenRest, paren_part, Given, Attr, Child, Closing, Inside, ElementRest, element_part}
+use Rattle.flight_grammar.proofs.Listed.{regroup, ungroup, Part, parts_spell, parts_back, trees_of_spell, trees_of_back, props_of_spell, props_of_back, pairs_of_spell, pairs_of_back}
+use Rattle.flight_grammar.proofs.Productions.{Below, Items, items_part, Props, properties_part, Pairs, entries_part, on_with, WithRest, ActionRest, action_part, Operand, ParenRest, paren_part, Given, Attr, Child, Inside, ElementRest, element_part}
 
 -- ---- what is an atom
 
@@ -61,8 +61,7 @@ attr_spell d a x m =
 attr_back : (d : ℕ) (n : Placed) (t : Tree) (x : List Word) → (AttributeName n ▸ sign Assign ▸ Given d t) x → Attr d (n, t) x
 attr_back d n t x m =
     let a = m.3 in
-    let q = a.3 in
-    (
+    let q = a.3 in (
       (a.0, (a.1, t)),
       ap (λ z. (z, t)) a.2,
       regroup (one name_of a.0) (Many Part a.1) (sign Assign ▸ Given d t) x (m.0, m.1, m.2, (q.0, q.1, q.2, q.3, parts_back a.1 q.1 q.4), m.4),
@@ -107,8 +106,7 @@ element_back d tag attrs children x m =
     let n = l.2 in
     let r = n.4 in
     let a = attrs_back d attrs r.0 r.3 in
-    let e = ends_back d tag children r.1 r.4 in
-    (
+    let e = ends_back d tag children r.1 r.4 in (
       l.0,
       l.1,
       (

@@ -1,9 +1,9 @@
 -- A choice by the next word, what is read up to a word, and reading that does not end at once.
-use Rattle.std.proofs.Common.{◌≡◌, ℕ, zero, suc, ◌+◌, ◌<◌, ◌≤◌, Bool, true, false, cond, ◌⊎◌, inl, inr, List, [], ◌∷◌, ◌++◌, length, Option, Some, None, Result, Ok, Err, refl, sym, ap, subst, ◌∙◌, append_assoc, arith}
-use Rattle.std.proofs.lemmas.List.{append-nil, length-append}
-use Rattle.flight_syntax.specs.Lexicon.{Word, Phrase, ◌▸◌, nothing, one, U}
-use Rattle.flight_grammar.specs.Reading.{Fault, Read, Reader, unexpected, ◌>>=◌, taken, want, is_some, at, next_is, done, paired, both, made, behind, closed, choice, Arm, stop, limit, go, by_arm, by_word}
-use Rattle.flight_grammar.proofs.Exact.{Closed, HasHead, Near, IsMeek, Split, Stop, Made, Exact, none, never, closed_none, closed_near, head_near, head_append, head_cases, meek_none, ok_is, err_is, bind_ok, bind_err, exact_as, exact_for}
+use Rattle.std.proofs.Common.{◌≡◌, ℕ, suc, ◌+◌, ◌≤◌, Bool, true, false, ◌⊎◌, inl, inr, List, [], ◌∷◌, ◌++◌, length, Option, Some, None, Ok, Err, refl, sym, ap, subst, ◌∙◌, arith}
+use Rattle.std.proofs.lemmas.List.{length-append}
+use Rattle.flight_syntax.specs.Lexicon.{Word, Phrase, ◌▸◌, one, U}
+use Rattle.flight_grammar.specs.Reading.{Fault, Read, Reader, unexpected, ◌>>=◌, taken, want, is_some, at, done, paired, both, made, behind, closed, choice, Arm, stop, limit, go, by_arm, by_word}
+use Rattle.flight_grammar.proofs.Exact.{Closed, HasHead, IsMeek, Split, Stop, Exact, none, never, closed_none, closed_near, head_near, head_append, head_cases, meek_none, err_is, bind_err, exact_as, exact_for}
 use Rattle.flight_grammar.proofs.Parts.{Just, exact_done, Seq, Joins, exact_both, Image, exact_made, Terminal, exact_want, exact_behind}
 
 -- ---- reading that does not end at once

@@ -1,9 +1,9 @@
 -- Where no level is left.
-use Rattle.std.proofs.Common.{◌≡◌, ℕ, zero, suc, Bool, true, false, if◌then◌else◌, ◌⊎◌, inl, inr, List, [], ◌∷◌, ◌++◌, length, Option, Some, None, Result, Ok, Err, refl, sym, ap, subst, ◌∙◌, append_assoc}
-use Rattle.flight_syntax.specs.Lexicon.{Word, deep, U, Phrase, one, is_deep}
-use Rattle.flight_grammar.specs.Reading.{Fault, Read, Reader, too_deep, ◌>>=◌, at, next_is, want, made}
-use Rattle.flight_grammar.specs.Verdict.{Alike, IsDeeper}
-use Rattle.flight_grammar.proofs.Exact.{Closed, HasHead, Near, Split, Stop, Made, Exact, never, closed_none, head_cases, meek_none, ok_is, err_is}
+use Rattle.std.proofs.Common.{◌≡◌, true, if◌then◌else◌, inl, inr, List, [], ◌∷◌, ◌++◌, length, Some, Ok, Err, refl, sym, ap, subst, ◌∙◌}
+use Rattle.flight_syntax.specs.Lexicon.{Word, deep, Phrase, one, is_deep}
+use Rattle.flight_grammar.specs.Reading.{Fault, Read, Reader, too_deep, at, next_is, want, made}
+use Rattle.flight_grammar.specs.Verdict.{Alike}
+use Rattle.flight_grammar.proofs.Exact.{Closed, HasHead, Near, Split, Stop, Exact, never, closed_none, head_cases, meek_none, ok_is, err_is}
 
 -- what is too deep is one word, read as this
 abbrev pub OnlyDeep : {A : Type 0} → A → A → Phrase

@@ -1,8 +1,8 @@
 -- What makes a reading exact.
-use Rattle.std.proofs.Common.{◌≡◌, ℕ, zero, suc, ◌+◌, ◌<◌, ◌≤◌, Bool, true, false, cond, ◌⊎◌, inl, inr, List, [], ◌∷◌, ◌++◌, length, Option, Some, None, Result, Ok, Err, refl, sym, ap, subst, ◌∙◌, append_assoc, arith}
+use Rattle.std.proofs.Common.{◌≡◌, Bool, true, false, cond, ◌⊎◌, inl, inr, List, [], ◌∷◌, ◌++◌, length, Result, Ok, Err, refl, sym, ap, subst, ◌∙◌, append_assoc}
 use Rattle.flight_syntax.specs.declared.word.Punctuator.{Punctuator}
 use Rattle.flight_syntax.specs.Lexicon.{Word, mark, deep, beyond, Phrase}
-use Rattle.flight_grammar.specs.Reading.{Fault, Read, Reader, ◌>>=◌, next_is}
+use Rattle.flight_grammar.specs.Reading.{Fault, Reader, ◌>>=◌, next_is}
 use Rattle.flight_grammar.specs.Verdict.{Alike, IsDeeper}
 
 -- the next word does not continue

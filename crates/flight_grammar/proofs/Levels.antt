@@ -1,27 +1,23 @@
 -- The reader of expressions is exact, level by level.
-use Rattle.std.proofs.Common.{◌≡◌, ℕ, zero, suc, ◌+◌, ◌-◌, ◌<◌, ◌≤◌, Bool, true, false, cond, ◌⊎◌, inl, inr, List, [], ◌∷◌, ◌++◌, length, Option, Some, None, Result, Ok, Err, refl, sym, ap, subst, ◌∙◌, append_assoc, arith}
+use Rattle.std.proofs.Common.{◌≡◌, ℕ, zero, suc, ◌+◌, ◌-◌, ◌≤◌, Bool, true, false, inl, inr, List, [], ◌∷◌, ◌++◌, refl, sym, ap, subst, ◌∙◌, append_assoc, arith}
 use Rattle.std.proofs.lemmas.List.{append-nil}
-use Rattle.flight_syntax.specs.declared.word.Keyword.TheVariants.{Let, In, If, Then, Else, For, Give, Throw, With}
+use Rattle.flight_syntax.specs.declared.word.Keyword.TheVariants.{Let, If, For, Throw, With}
 use Rattle.flight_syntax.specs.declared.word.Punctuator.{Punctuator}
-use Rattle.flight_syntax.specs.declared.word.Punctuator.TheVariants.{OpenBracket, CloseBracket, Dot, Less, Assign}
-use Rattle.flight_syntax.specs.Lexicon.{Word, key, lower, upper, mark, deep, beyond, Placed, U, Phrase, ◌▸◌, nothing, one, is_key, is_mark, is_deep, keyword, sign, name_of, lower_of}
-use Rattle.flight_syntax.specs.Tree.{Tree, Trees, TreeProps, let_in, if_else, for_in, throw, member, index, atom, variable, client, array, object, map, set, source, promise, stream, action, action_with, paren, binary, element, too_deep, too_many, postfixes, IsBase, IsElement}
-use Rattle.flight_syntax.specs.Grammar.{most_postfixes, Spells, Beyond}
-use Rattle.flight_grammar.specs.Reading as reading
-use Rattle.flight_grammar.specs.Reading.{Fault, Read, Reader, ◌>>=◌, Arm, stop, limit, go, at, next_is, want, done, both, made, by_word}
+use Rattle.flight_syntax.specs.declared.word.Punctuator.TheVariants.{CloseBracket, Less}
+use Rattle.flight_syntax.specs.Lexicon.{Word, key, lower, mark, beyond, Placed, Phrase, one, is_key, is_deep}
+use Rattle.flight_syntax.specs.Tree.{Tree, let_in, if_else, for_in, throw, member, index, variable, action, element, too_deep, too_many, postfixes, IsBase}
+use Rattle.flight_syntax.specs.Grammar.{most_postfixes, Spells}
+use Rattle.flight_grammar.specs.Reading.{Reader, Arm, stop, limit, go, at, both, made, by_word}
 use Rattle.flight_grammar.specs.Reader.{let_rest, if_rest, for_rest, Post, named, indexed, over, posted, starts_post, starts_element, posts, chain_of, chain_arm, atom_arm, level_arm, element_of, element_rest, element_arm, no_element_arm, no_expression, level, expression, child_element}
-use Rattle.flight_grammar.specs.Verdict.{IsDeeper}
-use Rattle.flight_grammar.proofs.Exact.{Closed, HasHead, Near, IsMeek, Split, Stop, Made, Exact, none, never, or, closed_none, closed_both, closed_left, closed_right, closed_near, head_cases, meek_none, meek_or, ok_is, err_is, exact_for}
+use Rattle.flight_grammar.proofs.Exact.{Closed, IsMeek, Exact, never, or, closed_both, closed_left, closed_right, meek_none, meek_or, exact_for}
 use Rattle.flight_grammar.proofs.Parts.{Just, exact_done, exact_spelled, Seq, Joins, exact_both, Image, exact_made, ByWord, IsArm, Limit, Arms, exact_word}
-use Rattle.flight_grammar.proofs.Choices.{IsEager, IsStop, eager_word, head_closed, Lead, Trail}
-use Rattle.flight_grammar.proofs.Terminals.{mark_is}
-use Rattle.flight_grammar.proofs.Lists.{Refuses}
+use Rattle.flight_grammar.proofs.Choices.{IsEager, IsStop, eager_word, head_closed}
 use Rattle.flight_grammar.proofs.Deep.{OnlyDeep, exact_deep}
 use Rattle.flight_grammar.proofs.After.{after, meek_after, meek_post}
 use Rattle.flight_grammar.proofs.Listed.{E}
 use Rattle.flight_grammar.proofs.Productions.{C, Below, refuses_mark, LetRest, let_part, IfRest, if_part, ForRest, for_part, ElementRest, element_part}
-use Rattle.flight_grammar.proofs.Postfixes.{BeyondPost, Posts, after_posts, meek_posts, posts_part, exact_arm, posted_after, posts_head}
-use Rattle.flight_grammar.proofs.Atoms.{IsAtom, after_atom, meek_atom, lead_mark, lead_key, lead_word, element_spell, element_back, AtomBehind, atom_spells, atom_back, atom_each}
+use Rattle.flight_grammar.proofs.Postfixes.{Posts, after_posts, meek_posts, posts_part, exact_arm, posted_after, posts_head}
+use Rattle.flight_grammar.proofs.Atoms.{IsAtom, after_atom, meek_atom, lead_key, lead_word, element_spell, element_back, AtomBehind, atom_spells, atom_back, atom_each}
 
 -- ---- an atom and its postfixes
 

@@ -14,4 +14,7 @@ pub mod Levels
 pub mod Values
 pub mod Programs
 pub mod Outcomes
+pub mod Agree
+pub mod Depth
+pub mod AnyDepth
 pub mod Example

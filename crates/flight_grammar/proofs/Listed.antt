@@ -1,11 +1,11 @@
 -- Lists as the productions give them, and as they are read.
-use Rattle.std.proofs.Common.{◌≡◌, ℕ, List, [], ◌∷◌, ◌++◌, refl, sym, ap, subst, ◌∙◌, append_assoc, inl, inr}
+use Rattle.std.proofs.Common.{◌≡◌, ℕ, List, [], ◌∷◌, ◌++◌, refl, sym, ap, ◌∙◌, append_assoc}
 use Rattle.json.specs.Json as json
 use Rattle.json.specs.Json.{Json}
-use Rattle.flight_syntax.specs.declared.word.Punctuator.TheVariants.{OpenBracket, CloseBracket, OpenBrace, CloseBrace, Comma, Colon, Minus}
-use Rattle.flight_syntax.specs.Lexicon.{Word, Placed, Phrase, ◌▸◌, nothing, one, is_mark, name_of, lower_of, text_of, property_of}
+use Rattle.flight_syntax.specs.declared.word.Punctuator.TheVariants.{OpenBracket, CloseBracket, Comma, Colon, Minus}
+use Rattle.flight_syntax.specs.Lexicon.{Word, Placed, Phrase, ◌▸◌, one, is_mark, name_of, lower_of, text_of, property_of}
 use Rattle.flight_syntax.specs.Tree.{Tree, Trees, TreeProps, TreePairs, Declaration, no_trees, tree_and, no_props, prop_and, no_pairs, pair_and, trees_of, props_of, pairs_of, json_items_of, json_members_of}
-use Rattle.flight_syntax.specs.Grammar.{Spells, Listed, MoreListed, Properties, MoreProperties, Entries, MoreEntries, SpellsJson, JsonItems, MoreJsonItems, JsonMembers, MoreJsonMembers, Parameters, MoreParameters, MoreParts, Declares, DeclaresAll}
+use Rattle.flight_syntax.specs.Grammar.{Spells, Listed, MoreListed, Properties, MoreProperties, Entries, MoreEntries, SpellsJson, JsonItems, MoreJsonItems, JsonMembers, MoreJsonMembers, Parameters, MoreParameters, MoreParts, DeclaresTo, DeclaresAllTo}
 use Rattle.flight_grammar.proofs.Parts.{Seq}
 use Rattle.flight_grammar.proofs.Choices.{Lead, Trail}
 use Rattle.flight_grammar.proofs.Many.{Many}
@@ -32,7 +32,6 @@ J d j = SpellsJson j d
 
 abbrev pub Member : ℕ → Placed × Json → Phrase
 Member d = Seq (one text_of) (λ n. Lead (is_mark Colon) (J d))
-
 
 -- expressions
 trees_of_more : (d : ℕ) (found : List Tree) (x : List Word) → Many (Commaed (E d)) found x → MoreListed (trees_of found) d x
@@ -155,10 +154,10 @@ parts_back [] x m = m
 parts_back (a ∷ rest) x m = (m.0, m.1, m.2, m.3, parts_back rest m.1 m.4)
 
 -- declarations
-pub declared_spell : (all : List Declaration) (x : List Word) → Many Declares all x → DeclaresAll all x
-declared_spell [] x m = m
-declared_spell (a ∷ rest) x m = (m.0, m.1, m.2, m.3, declared_spell rest m.1 m.4)
+pub declared_spell : (d : ℕ) (all : List Declaration) (x : List Word) → Many (DeclaresTo d) all x → DeclaresAllTo d all x
+declared_spell d [] x m = m
+declared_spell d (a ∷ rest) x m = (m.0, m.1, m.2, m.3, declared_spell d rest m.1 m.4)
 
-pub declared_back : (all : List Declaration) (x : List Word) → DeclaresAll all x → Many Declares all x
-declared_back [] x m = m
-declared_back (a ∷ rest) x m = (m.0, m.1, m.2, m.3, declared_back rest m.1 m.4)
+pub declared_back : (d : ℕ) (all : List Declaration) (x : List Word) → DeclaresAllTo d all x → Many (DeclaresTo d) all x
+declared_back d [] x m = m
+declared_back d (a ∷ rest) x m = (m.0, m.1, m.2, m.3, declared_back d rest m.1 m.4)

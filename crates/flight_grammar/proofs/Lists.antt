@@ -1,13 +1,13 @@
 -- Any number with commas between, up to a word.
-use Rattle.std.proofs.Common.{◌≡◌, ℕ, zero, suc, Bool, true, false, cond, ◌⊎◌, inl, inr, List, [], ◌∷◌, ◌++◌, length, Option, Some, None, Result, Ok, Err, refl, sym, ap, subst, ◌∙◌, append_assoc}
+use Rattle.std.proofs.Common.{◌≡◌, Bool, true, false, inl, inr, List, [], ◌∷◌, ◌++◌, Option, Ok, Err, refl, sym, ap, subst, ◌∙◌, append_assoc}
 use Rattle.std.proofs.lemmas.List.{append-nil}
 use Rattle.flight_syntax.specs.declared.word.Punctuator.TheVariants.{Comma}
 use Rattle.flight_syntax.specs.Lexicon.{Word, Phrase, ◌▸◌, nothing, one, U, is_mark, sign}
-use Rattle.flight_grammar.specs.Reading.{Fault, Read, Reader, ◌>>=◌, is_some, at, next_is, done, both, made, behind, closed, choice, many, more, first_and, some_until, list_until}
-use Rattle.flight_grammar.proofs.Exact.{Closed, HasHead, IsMeek, Made, Exact, none, never, or, closed_left, closed_right, closed_both, head_append, meek_none, meek_or, exact_for}
+use Rattle.flight_grammar.specs.Reading.{Read, Reader, at, done, both, made, behind, more, first_and, some_until, list_until}
+use Rattle.flight_grammar.proofs.Exact.{Closed, HasHead, IsMeek, Exact, none, never, or, closed_left, closed_right, closed_both, head_append, exact_for}
 use Rattle.flight_grammar.proofs.Parts.{Just, exact_done, Seq, Joins, exact_both, Image, exact_made, Terminal, meek_at, exact_behind}
-use Rattle.flight_grammar.proofs.Choices.{IsEager, IsApart, eager_behind, Or, Told, exact_choice, head_closed, behind_head, exact_closed}
-use Rattle.flight_grammar.proofs.Many.{Many, Star, last_on, goes_on, exact_many, goes_apart}
+use Rattle.flight_grammar.proofs.Choices.{IsApart, eager_behind, Or, exact_choice, head_closed, behind_head, exact_closed}
+use Rattle.flight_grammar.proofs.Many.{Many, last_on, goes_on, exact_many, goes_apart}
 use Rattle.flight_grammar.proofs.Terminals.{the_mark}
 
 -- ---- words that do not begin one

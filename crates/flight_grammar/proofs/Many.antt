@@ -1,10 +1,10 @@
 -- Any number, each begun by a word that tells.
-use Rattle.std.proofs.Common.{◌≡◌, ℕ, zero, suc, ◌+◌, ◌<◌, ◌≤◌, Bool, true, false, cond, ◌⊎◌, inl, inr, List, [], ◌∷◌, ◌++◌, length, Option, Some, None, Result, Ok, Err, refl, sym, ap, subst, ◌∙◌, append_assoc, arith}
+use Rattle.std.proofs.Common.{◌≡◌, ℕ, zero, suc, ◌≤◌, Bool, true, false, ◌⊎◌, inl, inr, List, [], ◌∷◌, ◌++◌, length, Ok, Err, refl, sym, ap, subst, ◌∙◌, append_assoc, arith}
 use Rattle.std.proofs.lemmas.List.{append-nil, length-append}
 use Rattle.flight_syntax.specs.Lexicon.{Word, Phrase, ◌▸◌, nothing}
-use Rattle.flight_grammar.specs.Reading.{Fault, Read, Reader, unexpected, ◌>>=◌, next_is, consed, many_by, many}
+use Rattle.flight_grammar.specs.Reading.{Fault, Read, Reader, ◌>>=◌, consed, many_by, many}
 use Rattle.flight_grammar.specs.Verdict.{IsDeeper}
-use Rattle.flight_grammar.proofs.Exact.{Closed, HasHead, Near, IsMeek, Split, Stop, Made, Exact, none, or, closed_none, closed_both, closed_left, closed_right, closed_near, head_near, head_append, head_cases, meek_none, meek_or, ok_is, bind_ok, bind_err, grown}
+use Rattle.flight_grammar.proofs.Exact.{Closed, HasHead, Near, IsMeek, Split, Exact, none, or, closed_none, closed_both, closed_left, closed_right, closed_near, head_near, head_append, head_cases, meek_none, meek_or, ok_is, bind_ok, bind_err, grown}
 use Rattle.flight_grammar.proofs.Choices.{IsEager, IsApart, ends_at_once, head_closed}
 
 abbrev pub Many : {A : Type 0} → (A → Phrase) → List A → Phrase

@@ -1,11 +1,8 @@
 -- A text comes to one outcome.
-use Rattle.std.proofs.Common.{◌≡◌, ℕ, zero, suc, Bool, true, false, ◌⊎◌, inl, inr, List, [], ◌∷◌, ◌++◌, length, Option, Some, None, refl, sym, ap, subst, ◌∙◌, append_assoc}
-use Rattle.flight_syntax.specs.declared.token.Token.{Token}
-use Rattle.flight_syntax.specs.declared.token.LexFault.{LexFault}
-use Rattle.flight_syntax.specs.Tokens.{AreTokens}
+use Rattle.std.proofs.Common.{◌≡◌, ℕ, Bool, true, false, ◌⊎◌, inl, inr, List, [], ◌∷◌, ◌++◌, length, Some, refl, sym, ap, subst, ◌∙◌, append_assoc}
 use Rattle.flight_syntax.specs.Lexicon.{Word, words_of}
 use Rattle.flight_syntax.specs.Tree.{Declaration}
-use Rattle.flight_syntax.specs.Grammar.{DeclaresAll}
+use Rattle.flight_syntax.specs.Grammar.{most_levels, DeclaresAll}
 use Rattle.flight_syntax.specs.Faults.{NameFault, first_fault, program_faults, has_app}
 use Rattle.std.specs.List.{AllZip}
 use Rattle.flight_syntax.specs.Derives.{Said, SaidAs, IsProgram}
@@ -13,17 +10,17 @@ use Rattle.flight_syntax.proofs.Readings.{one_reading}
 use Rattle.flight_syntax.proofs.Meanings.{all_said}
 use Rattle.flight_grammar.specs.Reading.{Fault}
 use Rattle.flight_grammar.specs.Verdict.{Alike, IsDeeper, StopsAt}
-use Rattle.flight_grammar.specs.Outcome.{Outcome, lexed, unexpected, too_deep, misnamed, no_app, program, place_of, StopsIn, IsSpelled, ComesTo, HasOneOutcome}
+use Rattle.flight_grammar.specs.Outcome.{lexed, unexpected, too_deep, misnamed, no_app, program, place_of, StopsIn, IsSpelled, HasOneOutcome}
 use Rattle.flight_grammar.proofs.Exact.{ok_is}
 use Rattle.flight_grammar.proofs.Programs.{again}
 
 -- ---- one place
 
 -- two ways to cut one list
-abbrev Cuts : (a x b y : List Word) → Type 0
+abbrev pub Cuts : (a x b y : List Word) → Type 0
 Cuts a x b y = ((a ≡ b) × (x ≡ y)) ⊎ (((w : Word) × (m : List Word) × (x ≡ w ∷ (m ++ y)) × (b ≡ a ++ w ∷ m)) ⊎ ((w : Word) × (m : List Word) × (y ≡ w ∷ (m ++ x)) × (a ≡ b ++ w ∷ m)))
 
-cut : (a x b y : List Word) → a ++ x ≡ b ++ y → Cuts a x b y
+pub cut : (a x b y : List Word) → a ++ x ≡ b ++ y → Cuts a x b y
 cut [] x [] y e = inl (refl, e)
 cut [] x (w ∷ b) y e = inr (inl (w, b, e, refl))
 cut (w ∷ a) x [] y e = inr (inr (w, a, sym e, refl))
@@ -42,7 +39,7 @@ alike_self [] = tt
 alike_self (w ∷ ws) = refl
 
 -- a program does not go on past the place where another stop is
-past : (words : List Word) (f : Fault) (s : StopsAt words f) (all : List Declaration) (w : Word) (m y rest : List Word) → s.bad ≡ w ∷ (m ++ y) → DeclaresAll all ((s.before ++ w ∷ m) ++ rest) → ⊥
+pub past : (words : List Word) (f : Fault) (s : StopsAt words f) (all : List Declaration) (w : Word) (m y rest : List Word) → s.bad ≡ w ∷ (m ++ y) → DeclaresAll all ((s.before ++ w ∷ m) ++ rest) → ⊥
 past words f s all w m y rest e d =
     s.dead (w ∷ (m ++ rest)) (subst (λ z. Alike z (w ∷ (m ++ rest))) (sym e) refl) all (subst (DeclaresAll all) (append_assoc s.before (w ∷ m) rest) d)
 
@@ -75,7 +72,7 @@ pub no_stop : (words : List Word) (all : List Declaration) (f : Fault) → Decla
 no_stop words all f d s = s.dead s.bad (alike_self s.bad) all (subst (DeclaresAll all) s.whole d)
 
 pub one_tree : (words : List Word) (all other : List Declaration) → DeclaresAll all words → DeclaresAll other words → all ≡ other
-one_tree words all other d e = ap (λ p. p.0) (ok_is (all, []) (other, []) (sym (again all words d) ∙ again other words e))
+one_tree words all other d e = ap (λ p. p.0) (ok_is (all, []) (other, []) (sym (again most_levels all words d) ∙ again most_levels other words e))
 
 -- ---- one outcome
 

@@ -1,11 +1,10 @@
 -- What reading is made of keeps it exact.
-use Rattle.std.proofs.Common.{◌≡◌, ℕ, zero, suc, ◌+◌, ◌<◌, ◌≤◌, Bool, true, false, cond, ◌⊎◌, inl, inr, List, [], ◌∷◌, ◌++◌, length, Option, Some, None, Result, Ok, Err, refl, sym, ap, subst, ◌∙◌, append_assoc, arith}
-use Rattle.std.proofs.lemmas.List.{append-nil, length-append}
+use Rattle.std.proofs.Common.{◌≡◌, suc, Bool, true, false, inl, inr, List, [], ◌∷◌, ◌++◌, length, Option, Some, None, Ok, Err, refl, sym, ap, subst, ◌∙◌, append_assoc}
 use Rattle.flight_syntax.specs.declared.word.Punctuator.{Punctuator}
 use Rattle.flight_syntax.specs.Lexicon.{Word, mark, deep, beyond, Phrase, ◌▸◌, nothing, one, U}
-use Rattle.flight_grammar.specs.Reading.{Fault, Read, Reader, unexpected, too_deep, ◌>>=◌, taken, want, is_some, at, next_is, done, paired, both, made, behind, closed, choice, Arm, stop, limit, go, by_arm, by_word}
-use Rattle.flight_grammar.specs.Verdict.{Alike, IsDeeper}
-use Rattle.flight_grammar.proofs.Exact.{Closed, HasHead, Near, IsMeek, Split, Stop, Made, Exact, none, never, closed_none, closed_near, head_near, head_cases, meek_none, deeper_view, deeper_more, ok_is, err_is, bind_ok, bind_err, grown, exact_as, exact_for}
+use Rattle.flight_grammar.specs.Reading.{Fault, Reader, unexpected, too_deep, ◌>>=◌, taken, want, is_some, at, done, paired, both, made, behind, Arm, stop, limit, go, by_arm, by_word}
+use Rattle.flight_grammar.specs.Verdict.{IsDeeper}
+use Rattle.flight_grammar.proofs.Exact.{Closed, Near, IsMeek, Split, Stop, Made, Exact, never, closed_none, closed_near, meek_none, deeper_view, deeper_more, ok_is, err_is, bind_ok, bind_err, grown, exact_as, exact_for}
 
 -- ---- nothing
 

@@ -1,16 +1,15 @@
 -- Postfixes, at most so many.
-use Rattle.std.proofs.Common.{◌≡◌, ℕ, zero, suc, ◌+◌, ◌<◌, ◌≤◌, Bool, true, false, cond, ◌⊎◌, inl, inr, List, [], ◌∷◌, ◌++◌, Option, Some, None, Result, Ok, Err, refl, sym, ap, subst, ◌∙◌, append_assoc, arith}
-use Rattle.std.proofs.lemmas.List.{append-nil}
+use Rattle.std.proofs.Common.{◌≡◌, ℕ, zero, suc, Bool, true, ◌⊎◌, inl, inr, List, [], ◌∷◌, ◌++◌, refl, sym, ap, subst, ◌∙◌}
 use Rattle.flight_syntax.specs.declared.word.Punctuator.{Punctuator}
 use Rattle.flight_syntax.specs.declared.word.Punctuator.TheVariants.{OpenBracket, CloseBracket, Dot}
-use Rattle.flight_syntax.specs.Lexicon.{Word, mark, deep, beyond, Placed, U, Phrase, ◌▸◌, nothing, one, is_mark, sign, name_of}
+use Rattle.flight_syntax.specs.Lexicon.{Word, mark, beyond, Phrase, ◌▸◌, nothing, one, is_mark, sign, name_of}
 use Rattle.flight_syntax.specs.Tree.{Tree, member, index, too_many}
-use Rattle.flight_syntax.specs.Grammar.{Spells, Beyond}
-use Rattle.flight_grammar.specs.Reading.{Reader, Arm, stop, limit, go, at, want, done, both, made, closed, choice, by_word}
+use Rattle.flight_syntax.specs.Grammar.{Beyond}
+use Rattle.flight_grammar.specs.Reading.{Reader, Arm, stop, limit, go, want, done, both, closed}
 use Rattle.flight_grammar.specs.Reader.{Post, named, indexed, over, posted, named_and, indexed_and, starts_post, last_post_arm, post_arm, posts}
-use Rattle.flight_grammar.proofs.Exact.{HasHead, IsMeek, Made, Exact, none, never, meek_none, exact_for}
+use Rattle.flight_grammar.proofs.Exact.{HasHead, IsMeek, Exact, none, meek_none, exact_for}
 use Rattle.flight_grammar.proofs.Parts.{Just, exact_done_on, Seq, Image, exact_made, ByWord, IsArm, Limit, Arms, exact_word}
-use Rattle.flight_grammar.proofs.Choices.{IsEager, IsStop, IsExactArm, eager_word, Or, exact_optional, joins_never, Trail, word_and, part_and, up_to}
+use Rattle.flight_grammar.proofs.Choices.{IsStop, IsExactArm, eager_word, Or, exact_optional, joins_never, Trail, word_and, part_and, up_to}
 use Rattle.flight_grammar.proofs.Terminals.{mark_is, the_mark, a_name}
 use Rattle.flight_grammar.proofs.After.{after, meek_post, mark_after}
 use Rattle.flight_grammar.proofs.Listed.{E}

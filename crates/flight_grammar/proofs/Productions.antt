@@ -1,21 +1,21 @@
 -- The parts of a level, from those of the level below.
-use Rattle.std.proofs.Common.{◌≡◌, ℕ, zero, suc, ◌||◌, Bool, true, false, cond, ◌⊎◌, inl, inr, List, [], ◌∷◌, ◌++◌, Option, Some, None, Result, Ok, Err, refl, sym, ap, subst, ◌∙◌}
-use Rattle.flight_syntax.specs.declared.word.Keyword.TheVariants.{Let, In, Then, Else, Give, With}
+use Rattle.std.proofs.Common.{◌≡◌, ℕ, zero, suc, ◌||◌, Bool, true, false, cond, ◌⊎◌, inl, inr, List, [], ◌∷◌, Option, Some, None, refl, sym, subst, ◌∙◌}
+use Rattle.flight_syntax.specs.declared.word.Keyword.TheVariants.{In, Then, Else, Give, With}
 use Rattle.flight_syntax.specs.declared.word.Punctuator.{Punctuator}
-use Rattle.flight_syntax.specs.declared.word.Punctuator.TheVariants.{OpenParen, CloseParen, OpenBracket, CloseBracket, OpenBrace, CloseBrace, Comma, Semicolon, Colon, Dot, Assign, Minus, Less, Greater, LessSlash, SlashGreater}
+use Rattle.flight_syntax.specs.declared.word.Punctuator.TheVariants.{CloseParen, OpenBracket, CloseBracket, OpenBrace, CloseBrace, Comma, Colon, Dot, Assign, Minus, Less, Greater, LessSlash, SlashGreater}
 use Rattle.flight_syntax.specs.declared.expr.Op.{Op}
-use Rattle.flight_syntax.specs.Lexicon.{Word, key, mark, beyond, Placed, U, Phrase, ◌▸◌, one, is_key, is_mark, name_of, lower_of, plain_of, is_plain, text_of, property_of, operator_of}
+use Rattle.flight_syntax.specs.Lexicon.{Word, key, mark, beyond, Placed, U, Phrase, one, is_key, is_mark, name_of, lower_of, plain_of, is_plain, text_of, operator_of}
 use Rattle.flight_syntax.specs.Tree.{Tree, element, too_deep, IsElement}
 use Rattle.flight_syntax.specs.Grammar.{Spells, Beyond}
-use Rattle.flight_grammar.specs.Reading.{Fault, Read, Reader, unexpected, is_some, at, next_is, want, done, both, made, behind, closed, choice, many}
+use Rattle.flight_grammar.specs.Reading.{Reader, is_some, at, want, done, both, made, behind, closed, choice}
 use Rattle.flight_grammar.specs.Reader.{let_rest, if_rest, for_rest, items, property, properties, entry, entries, with_rest, action_rest, operand, paren_rest, bare, given, more_parts, attribute_of, attribute, attributes, starts_given, starts_element, starts_child, child, children, closing, inside_of, inside, element_rest, starts_post}
-use Rattle.flight_grammar.proofs.Exact.{Closed, HasHead, IsMeek, Exact, none, never, or, head_append, head_cases, meek_none, meek_or}
-use Rattle.flight_grammar.proofs.Parts.{Just, exact_done, Seq, Joins, Image, exact_made, Terminal, meek_at, exact_want}
-use Rattle.flight_grammar.proofs.Choices.{IsEager, IsApart, eager_behind, eager_both, eager_made, eager_want, Or, exact_one_of, exact_optional, head_closed, joins, one_head, behind_head, Lead, Trail, after_word, word_and, part_and, up_to, lead_joins}
-use Rattle.flight_grammar.proofs.Many.{Many, Star, goes_on, exact_many, goes_apart}
+use Rattle.flight_grammar.proofs.Exact.{HasHead, IsMeek, Exact, none, never, or, meek_none}
+use Rattle.flight_grammar.proofs.Parts.{Just, exact_done, Seq, Image, exact_made, meek_at, exact_want}
+use Rattle.flight_grammar.proofs.Choices.{IsEager, eager_behind, eager_both, eager_made, eager_want, Or, exact_one_of, exact_optional, head_closed, joins, one_head, behind_head, Lead, Trail, after_word, word_and, part_and, up_to, lead_joins}
+use Rattle.flight_grammar.proofs.Many.{Many, goes_on, exact_many, goes_apart}
 use Rattle.flight_grammar.proofs.Terminals.{mark_is, the_key, the_mark, a_name, a_lower, a_plain, this_name, a_text, a_property, an_operator}
-use Rattle.flight_grammar.proofs.Lists.{IsErr, Refuses, comma, CommaList, UntilList, list_up_to}
-use Rattle.flight_grammar.proofs.After.{after, at_key, at_mark, after_apart, meek_after, key_after, mark_after}
+use Rattle.flight_grammar.proofs.Lists.{IsErr, Refuses, comma, UntilList, list_up_to}
+use Rattle.flight_grammar.proofs.After.{after, at_mark, after_apart, meek_after, key_after, mark_after}
 use Rattle.flight_grammar.proofs.Listed.{E, Property, Entry, Part}
 
 -- a child element of so many levels
@@ -69,7 +69,7 @@ Items d = UntilList (is_mark CloseBracket) (E d)
 pub items_part : (d : ℕ) (e : Reader Tree) → Exact (E d) after e → Refuses (at (is_mark CloseBracket)) e → Exact (Items d) never (items e)
 items_part d e h r = list_up_to h (the_mark CloseBracket) (mark_after Comma refl) (mark_after CloseBracket refl) (at_mark CloseBracket comma refl) r
 
-property_part : (d : ℕ) (e : Reader Tree) → Exact (E d) after e → Exact (Property d) (λ c. after c.1) (property e)
+pub property_part : (d : ℕ) (e : Reader Tree) → Exact (E d) after e → Exact (Property d) (λ c. after c.1) (property e)
 property_part d e h = word_and a_property (λ n. after_word (the_mark Colon) h)
 
 abbrev pub Props : ℕ → List (Placed × Tree) → Phrase
@@ -79,7 +79,7 @@ pub properties_part : (d : ℕ) (e : Reader Tree) → Exact (E d) after e → Ex
 properties_part d e h =
     list_up_to (property_part d e h) (the_mark CloseBrace) (λ c. mark_after Comma refl c.1) (λ c. mark_after CloseBrace refl c.1) (at_mark CloseBrace comma refl) (refuses_mark CloseBrace (property e) tt (λ ws. tt))
 
-entry_part : (d : ℕ) (e : Reader Tree) → Exact (E d) after e → Exact (Entry d) never (entry e)
+pub entry_part : (d : ℕ) (e : Reader Tree) → Exact (E d) after e → Exact (Entry d) never (entry e)
 entry_part d e h =
     after_word (the_mark OpenBracket) (part_and h (λ k. after_word (the_mark Comma) (up_to h (the_mark CloseBracket) (mark_after CloseBracket refl)))
     (lead_joins after (is_mark Comma) (λ k. Trail (E d) (is_mark CloseBracket)) never (mark_after Comma refl) (λ b. meek_none)))
@@ -106,7 +106,7 @@ WithItems d = Lead (is_key With) (Lead (is_mark OpenBracket) (Items d))
 abbrev pub WithRest : ℕ → Option (List Tree) → Phrase
 WithRest d = Or (Image Some (WithItems d)) (Just None)
 
-with_part : (d : ℕ) (e : Reader Tree) → Exact (E d) after e → Refuses (at (is_mark CloseBracket)) e → Exact (WithRest d) on_with (with_rest e)
+pub with_part : (d : ℕ) (e : Reader Tree) → Exact (E d) after e → Refuses (at (is_mark CloseBracket)) e → Exact (WithRest d) on_with (with_rest e)
 with_part d e h r =
     let bound = after_word (the_mark OpenBracket) (items_part d e h r) in
     exact_optional (at (is_key With)) None (exact_made Some (WithItems d) on_with (behind (is_key With) (behind (is_mark OpenBracket) (items e))) (after_word (the_key With) bound) meek_with)
@@ -131,7 +131,7 @@ operator_apart : (w : Word) → at operator_of w ≡ true → at (is_mark CloseP
 operator_apart (mark CloseParen) e = absurd cc
 operator_apart _ e = refl
 
-operand_part : (d : ℕ) (e : Reader Tree) → Exact (E d) after e → Exact (Operand d) never (operand e)
+pub operand_part : (d : ℕ) (e : Reader Tree) → Exact (E d) after e → Exact (Operand d) never (operand e)
 operand_part d e h =
     exact_one_of (at (is_mark CloseParen)) (after_word (the_mark CloseParen) (exact_done None))
     (exact_made Some (OpRest d) never (both (want operator_of) (λ o. closed e (is_mark CloseParen))) (word_and an_operator (λ o. up_to h (the_mark CloseParen) (mark_after CloseParen refl))) (λ a. meek_none))
@@ -184,7 +184,7 @@ Braces d = Lead (is_mark OpenBrace) (Trail (E d) (is_mark CloseBrace))
 abbrev pub Given : ℕ → Tree → Phrase
 Given d = Or (Image bare (one text_of)) (Braces d)
 
-braces_part : (d : ℕ) (e : Reader Tree) → Exact (E d) after e → Exact (Braces d) never (behind (is_mark OpenBrace) (closed e (is_mark CloseBrace)))
+pub braces_part : (d : ℕ) (e : Reader Tree) → Exact (E d) after e → Exact (Braces d) never (behind (is_mark OpenBrace) (closed e (is_mark CloseBrace)))
 braces_part d e h = after_word (the_mark OpenBrace) (up_to h (the_mark CloseBrace) (mark_after CloseBrace refl))
 
 pub given_part : (d : ℕ) (e : Reader Tree) → Exact (E d) after e → Exact (Given d) never (given e)
@@ -194,7 +194,7 @@ given_part d e h =
     (λ a x rest m. head_closed (at (is_mark OpenBrace)) (at text_of) x rest (at_mark OpenBrace (at text_of) refl) (behind_head (is_mark OpenBrace) tt (Trail (E d) (is_mark CloseBrace) a) x m))
     (meek_at text_of a_text) (eager_made (at text_of) bare (want text_of) (eager_want text_of))
 
-parts_part : Exact (Many Part) (goes_on (at (is_mark Minus)) never) more_parts
+pub parts_part : Exact (Many Part) (goes_on (at (is_mark Minus)) never) more_parts
 parts_part =
     let each = after_word (the_mark Minus) (exact_want name_of a_name) in
     exact_many Part (at (is_mark Minus)) never (behind (is_mark Minus) (want name_of))
@@ -205,18 +205,18 @@ parts_part =
       eager = eager_behind (is_mark Minus) (one name_of) never (want name_of) (exact_want name_of a_name);
     }) each
 
-abbrev AttrRest : ℕ → Placed → List Placed × Tree → Phrase
+abbrev pub AttrRest : ℕ → Placed → List Placed × Tree → Phrase
 AttrRest d n = Seq (Many Part) (λ ps. Lead (is_mark Assign) (Given d))
 
 abbrev pub Attr : ℕ → Placed × Tree → Phrase
 Attr d = Image attribute_of (Seq (one name_of) (AttrRest d))
 
-attr_rest_part : (d : ℕ) (e : Reader Tree) → Exact (E d) after e → (n : Placed) → Exact (AttrRest d n) never (both more_parts (λ ps. behind (is_mark Assign) (given e)))
+pub attr_rest_part : (d : ℕ) (e : Reader Tree) → Exact (E d) after e → (n : Placed) → Exact (AttrRest d n) never (both more_parts (λ ps. behind (is_mark Assign) (given e)))
 attr_rest_part d e h n =
     part_and parts_part (λ ps. after_word (the_mark Assign) (given_part d e h))
     (lead_joins (goes_on (at (is_mark Minus)) never) (is_mark Assign) (λ ps. Given d) never (goes_apart (at (is_mark Assign)) (at (is_mark Minus)) never (λ a w k. refl) (at_mark Assign (at (is_mark Minus)) refl)) (λ b. meek_none))
 
-attribute_part : (d : ℕ) (e : Reader Tree) → Exact (E d) after e → Exact (Attr d) never (attribute e)
+pub attribute_part : (d : ℕ) (e : Reader Tree) → Exact (E d) after e → Exact (Attr d) never (attribute e)
 attribute_part d e h =
     exact_made attribute_of (Seq (one name_of) (AttrRest d)) never (both (want name_of) (λ n. both more_parts (λ ps. behind (is_mark Assign) (given e)))) (word_and a_name (attr_rest_part d e h)) (λ a. meek_none)
 
@@ -298,7 +298,7 @@ meek_child = record { at_deep = refl; at_beyond = beyonds }
     beyonds Less e = absurd cc
     beyonds _ e = refl
 
-child_part : (d : ℕ) (e c : Reader Tree) → Below d e c → Exact (Child d) never (child e c)
+pub child_part : (d : ℕ) (e c : Reader Tree) → Below d e c → Exact (Child d) never (child e c)
 child_part d e c b = exact_one_of starts_given (given_part d e b.whole) b.nested (given_head d) (λ a x rest m. head_closed starts_element starts_given x rest element_apart (nested_head d a x m)) meek_given (eager_given d e b.whole)
 
 given_starts : (w : Word) → starts_given w ≡ true → starts_child w ≡ true
@@ -328,7 +328,7 @@ children_part d e c b =
 abbrev pub Closing : Placed → U → Phrase
 Closing tag = Lead (is_mark LessSlash) (Lead (is_plain tag.bytes) (one (is_mark Greater)))
 
-closing_part : (tag : Placed) → Exact (Closing tag) never (closing tag)
+pub closing_part : (tag : Placed) → Exact (Closing tag) never (closing tag)
 closing_part tag = after_word (the_mark LessSlash) (after_word (this_name tag.bytes) (exact_want (is_mark Greater) (the_mark Greater)))
 
 abbrev InsideRest : ℕ → Placed → List Tree × U → Phrase
@@ -337,13 +337,13 @@ InsideRest d tag = Seq (Many (Child d)) (λ cs. Closing tag)
 abbrev pub Inside : ℕ → Placed → List Tree → Phrase
 Inside d tag = Or (Lead (is_mark SlashGreater) (Just [])) (Lead (is_mark Greater) (Image inside_of (InsideRest d tag)))
 
-inside_rest_part : (d : ℕ) (e c : Reader Tree) → Below d e c → (tag : Placed) → Exact (InsideRest d tag) never (both (children e c) (λ cs. closing tag))
+pub inside_rest_part : (d : ℕ) (e c : Reader Tree) → Below d e c → (tag : Placed) → Exact (InsideRest d tag) never (both (children e c) (λ cs. closing tag))
 inside_rest_part d e c b tag =
     part_and (children_part d e c b) (λ cs. closing_part tag)
     (lead_joins (goes_on starts_child never) (is_mark LessSlash) (λ (cs : List Tree). Lead (is_plain tag.bytes) (one (is_mark Greater))) never
     (goes_apart (at (is_mark LessSlash)) starts_child never (λ a w k. refl) (at_mark LessSlash starts_child refl)) (λ u. meek_none))
 
-inside_part : (d : ℕ) (e c : Reader Tree) → Below d e c → (tag : Placed) → Exact (Inside d tag) never (inside e c tag)
+pub inside_part : (d : ℕ) (e c : Reader Tree) → Below d e c → (tag : Placed) → Exact (Inside d tag) never (inside e c tag)
 inside_part d e c b tag =
     exact_one_of (at (is_mark SlashGreater)) (after_word (the_mark SlashGreater) (exact_done []))
     (after_word (the_mark Greater) (exact_made inside_of (InsideRest d tag) never (both (children e c) (λ cs. closing tag)) (inside_rest_part d e c b tag) (λ a. meek_none)))

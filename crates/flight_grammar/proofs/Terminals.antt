@@ -1,5 +1,5 @@
 -- The tests of one word.
-use Rattle.std.proofs.Common.{◌≡◌, ℕ, zero, suc, ◌==◌, Bool, true, false, List, [], ◌∷◌, Option, Some, None, refl, sym, ap, subst, ◌∙◌, arith, if◌then◌else◌, codes}
+use Rattle.std.proofs.Common.{◌≡◌, ℕ, ◌==◌, Bool, true, false, List, Some, refl, sym, ap, ◌∙◌, arith, codes}
 use Rattle.std.specs.Prelude.{slice_get}
 use Rattle.std.specs.Str.{bytes_eq}
 use Rattle.std.proofs.lemmas.Bool.{eqb-true}
@@ -12,7 +12,7 @@ use Rattle.flight_syntax.specs.declared.word.Punctuator.{Punctuator}
 use Rattle.flight_syntax.specs.declared.word.Punctuator.TheVariants as signs
 use Rattle.flight_syntax.specs.declared.expr.Op.TheVariants as op
 use Rattle.json.specs.Json as json
-use Rattle.flight_syntax.specs.Lexicon.{Word, key, lower, upper, number, big, literal, mark, deep, beyond, Placed, U, taken_where, key_number, sign_number, all_keywords, all_signs, is_key, is_mark, name_of, lower_of, upper_of, plain_of, is_plain, component_of, text_of, property_of, constant_of, negative_of, date_of, symbol_of, operator_of, json_of, negative_json_of, minus}
+use Rattle.flight_syntax.specs.Lexicon.{Word, key, lower, upper, number, literal, mark, Placed, U, taken_where, key_number, sign_number, all_keywords, all_signs, is_key, is_mark, name_of, lower_of, upper_of, plain_of, is_plain, component_of, text_of, property_of, negative_of, date_of, symbol_of, operator_of, negative_json_of, minus}
 use Rattle.flight_grammar.proofs.Parts.{Terminal}
 
 same_self : (n : ℕ) → (n == n) ≡ true

@@ -1,18 +1,17 @@
 -- The reader of JSON is exact, level by level.
-use Rattle.std.proofs.Common.{◌≡◌, ℕ, zero, suc, Bool, true, false, if◌then◌else◌, ◌⊎◌, inl, inr, List, [], ◌∷◌, ◌++◌, Option, Some, None, refl, sym, ap, subst, ◌∙◌, codes}
+use Rattle.std.proofs.Common.{◌≡◌, ℕ, zero, suc, Bool, true, false, if◌then◌else◌, inl, inr, List, [], ◌∷◌, Option, Some, None, refl, sym, ap, subst, codes}
 use Rattle.std.specs.Str.{bytes_eq}
 use Rattle.json.specs.Json as json
 use Rattle.json.specs.Json.{Json}
 use Rattle.flight_syntax.specs.declared.word.Keyword.TheVariants.{Null}
-use Rattle.flight_syntax.specs.declared.word.Punctuator.{Punctuator}
-use Rattle.flight_syntax.specs.declared.word.Punctuator.TheVariants.{OpenBracket, CloseBracket, OpenBrace, CloseBrace, Comma, Colon, Minus}
-use Rattle.flight_syntax.specs.Lexicon.{Word, Placed, key, number, mark, deep, beyond, Phrase, ◌▸◌, nothing, one, is_mark, is_deep, sign, text_of, json_of, negative_json_of}
+use Rattle.flight_syntax.specs.declared.word.Punctuator.TheVariants.{OpenBracket, CloseBracket, OpenBrace, CloseBrace, Colon, Minus}
+use Rattle.flight_syntax.specs.Lexicon.{Word, Placed, key, number, mark, Phrase, one, is_mark, is_deep, json_of, negative_json_of}
 use Rattle.flight_syntax.specs.Tree.{json_items_of, json_members_of}
 use Rattle.flight_syntax.specs.Grammar.{SpellsJson}
-use Rattle.flight_grammar.specs.Reading.{Reader, at, Arm, stop, limit, go, want, done, made, by_word, list_until}
+use Rattle.flight_grammar.specs.Reading.{Reader, at, by_word, list_until}
 use Rattle.flight_grammar.specs.Reader.{json_key, scalar_arm, json_arm, no_json, json_value}
 use Rattle.flight_grammar.proofs.Exact.{Exact, never, meek_none, exact_for}
-use Rattle.flight_grammar.proofs.Parts.{Just, exact_done, Seq, Image, exact_made, ByWord, IsArm, Limit, Arms, exact_word, exact_want}
+use Rattle.flight_grammar.proofs.Parts.{Just, exact_done, Image, exact_made, ByWord, IsArm, Limit, Arms, exact_word, exact_want}
 use Rattle.flight_grammar.proofs.Choices.{after_word, word_and}
 use Rattle.flight_grammar.proofs.Terminals.{the_mark, a_text, a_negative_json}
 use Rattle.flight_grammar.proofs.Lists.{Refuses, comma, UntilList, list_up_to}
@@ -124,11 +123,14 @@ no_limit : (L : Type 0) (o : Option Json) → IsArm (ScalarBehind o) never ⊥ (
 no_limit L (Some j) h = h
 no_limit L None h = h
 
-values_part : (d : ℕ) (v : Reader Json) → Exact (J d) never v → Refuses at_close v → Exact (Values d) never (list_until (is_mark CloseBracket) v)
+pub values_part : (d : ℕ) (v : Reader Json) → Exact (J d) never v → Refuses at_close v → Exact (Values d) never (list_until (is_mark CloseBracket) v)
 values_part d v h r = list_up_to h (the_mark CloseBracket) (λ a w k. refl) (λ a w k. refl) (at_mark CloseBracket comma refl) r
 
+pub key_part : (d : ℕ) (v : Reader Json) → Exact (J d) never v → Exact (Member d) (λ c. never c.1) (json_key v)
+key_part d v h = word_and a_text (λ n. after_word (the_mark Colon) h)
+
 members_part : (d : ℕ) (v : Reader Json) → Exact (J d) never v → Exact (Members d) never (list_until (is_mark CloseBrace) (json_key v))
-members_part d v h = list_up_to (word_and a_text (λ n. after_word (the_mark Colon) h)) (the_mark CloseBrace) (λ a w k. refl) (λ a w k. refl) (at_mark CloseBrace comma refl) (refuses_mark CloseBrace (json_key v) tt (λ ws. tt))
+members_part d v h = list_up_to (key_part d v h) (the_mark CloseBrace) (λ a w k. refl) (λ a w k. refl) (at_mark CloseBrace comma refl) (refuses_mark CloseBrace (json_key v) tt (λ ws. tt))
 
 json_each : (d : ℕ) (v : Reader Json) → Exact (J d) never v → Refuses at_close v → (w : Word) → IsArm (JsonBehind d w) never (Limit (JsonBehind d) w) (json_arm v w)
 json_each d v h r (mark Minus) = exact_want negative_json_of a_negative_json

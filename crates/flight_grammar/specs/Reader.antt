@@ -8,11 +8,11 @@ use Rattle.flight_syntax.specs.declared.word.Punctuator.TheVariants.{OpenParen, 
 use Rattle.flight_syntax.specs.declared.expr.Op.{Op}
 use Rattle.json.specs.Json as json
 use Rattle.json.specs.Json.{Json}
-use Rattle.flight_syntax.specs.Lexicon.{Word, key, lower, upper, literal, mark, deep, beyond, Placed, U, is_key, is_mark, is_deep, name_of, lower_of, upper_of, plain_of, is_plain, component_of, text_of, property_of, constant_of, negative_of, date_of, symbol_of, operator_of, json_of, negative_json_of}
+use Rattle.flight_syntax.specs.Lexicon.{Word, key, lower, upper, mark, beyond, Placed, U, is_key, is_mark, is_deep, name_of, lower_of, plain_of, is_plain, component_of, text_of, property_of, constant_of, negative_of, date_of, symbol_of, operator_of, json_of, negative_json_of}
 use Rattle.flight_syntax.specs.Tree.{Tree, Trees, TreeProps, TreePairs, Declaration, let_in, if_else, for_in, throw, member, index, atom, variable, client, array, object, map, set, source, promise, stream, action, action_with, paren, binary, element, too_many, trees_of, props_of, pairs_of, server, client_is, action_is, json_items_of, json_members_of, joined}
 use Rattle.flight_syntax.specs.Tree as tree
 use Rattle.flight_syntax.specs.Grammar.{most_levels, most_postfixes}
-use Rattle.flight_grammar.specs.Reading.{Fault, Read, Reader, unexpected, too_deep, ◌>>=◌, want, at, next_is, done, both, made, behind, closed, choice, Arm, stop, limit, go, by_word, many, list_until}
+use Rattle.flight_grammar.specs.Reading.{Fault, Reader, too_deep, ◌>>=◌, want, at, next_is, done, both, made, behind, closed, choice, Arm, stop, limit, go, by_word, many, list_until}
 
 -- ---- behind the first word of a production
 
@@ -265,20 +265,33 @@ json_value (suc d) = by_word (json_arm (json_value d))
 abbrev pub parameters : Reader (List Placed)
 parameters = behind (is_mark OpenParen) (list_until (is_mark CloseParen) (want lower_of))
 
+-- of at most so many levels
+abbrev pub body_to : ℕ → Reader Tree
+body_to levels = behind (is_mark Assign) (closed (expression levels) (is_mark Semicolon))
+
 abbrev pub body : Reader Tree
-body = behind (is_mark Assign) (closed (expression most_levels) (is_mark Semicolon))
+body = body_to most_levels
+
+abbrev pub import_to : ℕ → Reader Json
+import_to levels = behind (is_mark Assign) (closed (json_value levels) (is_mark Semicolon))
 
 abbrev pub import : Reader Json
-import = behind (is_mark Assign) (closed (json_value most_levels) (is_mark Semicolon))
+import = import_to most_levels
+
+abbrev pub declaration_arm_to : ℕ → Word → Arm Declaration
+declaration_arm_to levels (key Server at) = go (made (λ p. server p.0 p.1.0 p.1.1) (both (want component_of) (λ n. both parameters (λ ps. body_to levels))))
+declaration_arm_to levels (key Client at) = go (made (λ p. client_is p.0 p.1) (both (want component_of) (λ n. import_to levels)))
+declaration_arm_to levels (key Action at) = go (made (λ p. action_is p.0 p.1.0 p.1.1) (both (want lower_of) (λ n. both parameters (λ ps. body_to levels))))
+declaration_arm_to levels _ = stop
 
 abbrev pub declaration_arm : Word → Arm Declaration
-declaration_arm (key Server at) = go (made (λ p. server p.0 p.1.0 p.1.1) (both (want component_of) (λ n. both parameters (λ ps. body))))
-declaration_arm (key Client at) = go (made (λ p. client_is p.0 p.1) (both (want component_of) (λ n. import)))
-declaration_arm (key Action at) = go (made (λ p. action_is p.0 p.1.0 p.1.1) (both (want lower_of) (λ n. both parameters (λ ps. body))))
-declaration_arm _ = stop
+declaration_arm = declaration_arm_to most_levels
+
+abbrev pub declaration_to : ℕ → Reader Declaration
+declaration_to levels = by_word (declaration_arm_to levels)
 
 abbrev pub declaration : Reader Declaration
-declaration = by_word declaration_arm
+declaration = declaration_to most_levels
 
 abbrev pub starts_declaration : Word → Bool
 starts_declaration (key Server at) = true
@@ -291,5 +304,8 @@ ended (a, []) = Ok a
 ended (a, word ∷ words) = Err (record { too_deep = false; left = length (word ∷ words) })
 
 -- declarations and nothing more
+abbrev pub program_to : ℕ → List Word → Result (List Declaration) Fault
+program_to levels words = many starts_declaration (declaration_to levels) words >>= ended
+
 abbrev pub program : List Word → Result (List Declaration) Fault
-program words = many starts_declaration declaration words >>= ended
+program = program_to most_levels

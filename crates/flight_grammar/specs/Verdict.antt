@@ -1,9 +1,8 @@
 -- What a whole list of words is: the one program that it spells, or the first word that no program continues with.
-use Rattle.std.specs.Prelude.{ℕ, ◌≡◌, ◌⊎◌, true, false, Bool, List, [], ◌∷◌, ◌++◌, length, Result, Ok, Err}
-use Rattle.flight_syntax.specs.declared.word.Punctuator.{Punctuator}
-use Rattle.flight_syntax.specs.Lexicon.{Word, mark, deep, beyond}
+use Rattle.std.specs.Prelude.{ℕ, ◌≡◌, true, false, List, [], ◌∷◌, ◌++◌, length, Result, Ok, Err}
+use Rattle.flight_syntax.specs.Lexicon.{Word, mark, deep, beyond, AreReal}
 use Rattle.flight_syntax.specs.Tree.{Declaration}
-use Rattle.flight_syntax.specs.Grammar.{DeclaresAll}
+use Rattle.flight_syntax.specs.Grammar.{DeclaresAllTo, DeclaresAll}
 use Rattle.flight_grammar.specs.Reading.{Fault}
 
 -- the same next word, or the end in both
@@ -39,3 +38,11 @@ pub record StopsAt (words : List Word) (f : Fault) : Type 0 where
 abbrev pub Verdict : List Word → Result (List Declaration) Fault → Type 0
 Verdict words (Ok all) = DeclaresAll all words × ((other : List Declaration) → DeclaresAll other words → other ≡ all)
 Verdict words (Err f) = StopsAt words f
+
+-- Nor does any program of any number of levels go on with the word that is there.
+abbrev pub IsDeadAtAnyDepth : (words : List Word) (f : Fault) → StopsAt words f → Type 0
+IsDeadAtAnyDepth words f stop = (levels : ℕ) (others : List Word) → AreReal others → Alike stop.bad others → (all : List Declaration) → DeclaresAllTo levels all (stop.before ++ others) → ⊥
+
+-- where a text stops and not because it is too deep
+abbrev pub StopsAtAnyDepth : List Word → Type 0
+StopsAtAnyDepth words = (f : Fault) (stop : StopsAt words f) → f.too_deep ≡ false → IsDeadAtAnyDepth words f stop

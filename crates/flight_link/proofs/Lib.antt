@@ -1,1 +1,12 @@
-pub mod Empty
+pub mod Steps
+pub mod Turns
+pub mod PlainRows
+pub mod Stepping
+pub mod Advancing
+pub mod Settling
+pub mod Growing
+pub mod RowComes
+pub mod Standing
+pub mod Waits
+pub mod Finds
+pub mod Defined

@@ -3,4 +3,7 @@ pub mod Adding
 pub mod Finding
 pub mod Looking
 pub mod Origins
-pub mod Stub
+pub mod Nodes
+pub mod Growth
+pub mod Waiting
+pub mod Least

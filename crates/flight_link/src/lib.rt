@@ -9,9 +9,20 @@
 //! Rows that open or close a stream are not linked yet: they are refused.
 #![tactic(auto)]
 
+mod add;
+mod advance;
 mod fault;
+mod find;
 mod found;
+mod fresh;
 mod links;
+mod named;
+mod node;
+mod room;
+mod settle;
+mod step;
+mod table;
+mod undefined;
 
 pub use fault::{LinkFault, LinkKind};
 pub use found::{Found, Seen, Spot};

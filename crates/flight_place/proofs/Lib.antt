@@ -12,3 +12,8 @@ pub mod PairsStay
 mod Worked
 pub mod Settled
 pub mod Undefined
+pub mod Rooted
+pub mod Parsing
+pub mod Gathering
+pub mod Turns
+pub mod OneByOne

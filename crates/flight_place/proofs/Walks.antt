@@ -1,8 +1,8 @@
 -- The walk over items and members, and the form of an element.
 use Rattle.std.proofs.Common.{◌≡◌, ℕ, ◌+◌, ◌<◌, ◌≤◌, List, [], ◌∷◌, ◌++◌, length, length-append, slice_set, slice_index_or, refl, sym, ◌∙◌, ap, subst, arith, true, false, append_assoc, inl}
 use Rattle.std.proofs.lemmas.Bool.{false≢true}
-use Rattle.serde_json.specs.View.{view, items_view}
-use Rattle.serde_json.specs.declared.value.Value.{Value}
+use Rattle.flight_place.specs.Parsed.{data_of, items_data}
+use Rattle.flight_place.specs.declared.parsed.Parsed.{Parsed}
 use Rattle.serde_json.specs.Data.{Data, null, boolean, number, string, array, object, Items, no_items, item, Members, member}
 use Rattle.flight_place.specs.declared.place.Place.{Place}
 use Rattle.flight_place.specs.declared.place.Place.TheVariants as place
@@ -17,23 +17,23 @@ use Rattle.flight_place.proofs.Adding.{Leads, leads-start, leads-on, leads-end, 
 -- ---- which lists have the form of an element
 
 -- a list of four, three of which are known
-pub four : (xs : List Value) (t k p : Value) → 4 ≤ length xs → length xs < 5 → t ≡ slice_index_or xs 1 t → k ≡ slice_index_or xs 2 k → p ≡ slice_index_or xs 3 p
-    → (m : Data) × (items_view xs ≡ item m (item (view t) (item (view k) (item (view p) no_items))))
+pub four : (xs : List Parsed) (t k p : Parsed) → 4 ≤ length xs → length xs < 5 → t ≡ slice_index_or xs 1 t → k ≡ slice_index_or xs 2 k → p ≡ slice_index_or xs 3 p
+    → (m : Data) × (items_data xs ≡ item m (item (data_of t) (item (data_of k) (item (data_of p) no_items))))
 four [] t k p least most is_t is_k is_p = absurd (omega arith)
 four (a ∷ []) t k p least most is_t is_k is_p = absurd (omega arith)
 four (a ∷ b ∷ []) t k p least most is_t is_k is_p = absurd (omega arith)
 four (a ∷ b ∷ c ∷ []) t k p least most is_t is_k is_p = absurd (omega arith)
-four (a ∷ b ∷ c ∷ d ∷ []) t k p least most is_t is_k is_p = (view a, rw (is_t, is_k, is_p) refl)
+four (a ∷ b ∷ c ∷ d ∷ []) t k p least most is_t is_k is_p = (data_of a, rw (is_t, is_k, is_p) refl)
 four (a ∷ b ∷ c ∷ d ∷ e ∷ xs) t k p least most is_t is_k is_p = absurd (omega arith)
 
-pub fewer : (xs : List Value) → length xs < 4 → is_element (items_view xs) ≡ false
+pub fewer : (xs : List Parsed) → length xs < 4 → is_element (items_data xs) ≡ false
 fewer [] short = refl
 fewer (a ∷ []) short = refl
 fewer (a ∷ b ∷ []) short = refl
 fewer (a ∷ b ∷ c ∷ []) short = refl
 fewer (a ∷ b ∷ c ∷ d ∷ xs) short = absurd (omega arith)
 
-pub more : (xs : List Value) → 5 ≤ length xs → is_element (items_view xs) ≡ false
+pub more : (xs : List Parsed) → 5 ≤ length xs → is_element (items_data xs) ≡ false
 more [] long = refl
 more (a ∷ []) long = refl
 more (a ∷ b ∷ []) long = refl

@@ -8,3 +8,5 @@ pub mod Resolve
 pub mod Meaning
 pub mod Good
 pub mod Lasting
+pub mod Parsed
+pub mod Placing

@@ -6,12 +6,20 @@
 //! the first fault that the walk meets (React 19.0, `parseModel` and `parseModelString` of ReactFlightClient,
 //! read strictly). `specs/Places.antt` has what is visited at each number, and which places stand for that.
 //!
+//! JSON is read as serde_json reads it, but with no tree of the whole payload: items of an array are placed as they
+//! come, and an object or an element is read first, its texts borrowed, since its members may stand in any order.
+//!
 //! Where a reference leads is no matter of this crate.
 #![tactic(auto)]
 
 mod fault;
+mod gathered;
 mod law;
+mod number;
+mod parsed;
 mod place;
+mod placing;
+mod reading;
 #[cfg(test)]
 mod tests;
 mod token;

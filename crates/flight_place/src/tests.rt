@@ -42,6 +42,18 @@ fn reads_rows(rt: HostRuntime) {
             5,
         ),
         (RowKind::Model, r#"{"a":1.5,"a":[]}"#, Manner::Wire, 2),
+        (
+            RowKind::Model,
+            r#"[[],{"d":1,"c":2,"d":[3]}]"#,
+            Manner::Wire,
+            6,
+        ),
+        (
+            RowKind::Model,
+            r#"{"r":0,"q":0,"p":0,"o":0,"n":0,"m":0,"l":0,"k":0,"j":0,"i":0,"h":0,"g":0,"f":0,"e":0,"d":0,"c":0,"b":0,"a":0,"r":[0]}"#,
+            Manner::Wire,
+            20,
+        ),
         (RowKind::Model, "-9007199254740991", Manner::Wire, 1),
         (RowKind::Import, r#"[4707,[],"$L"]"#, Manner::Wire, 1),
         (
@@ -67,6 +79,14 @@ fn refuses_rows(rt: HostRuntime) {
         (RowKind::Model, "", Manner::Wire, PlaceKind::BadModel),
         (RowKind::Model, "1e400", Manner::Wire, PlaceKind::BadModel),
         (RowKind::Model, "1.0", Manner::Wire, PlaceKind::Number),
+        (
+            RowKind::Model,
+            r#"{"a":1e400,"a":1}"#,
+            Manner::Wire,
+            PlaceKind::BadModel,
+        ),
+        (RowKind::Model, "[1.5,[", Manner::Wire, PlaceKind::BadModel),
+        (RowKind::Model, "[1.5] 1", Manner::Wire, PlaceKind::BadModel),
         (RowKind::Model, "-0", Manner::Wire, PlaceKind::Number),
         (
             RowKind::Model,

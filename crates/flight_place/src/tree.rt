@@ -3,14 +3,17 @@ ghost use Rattle.serde_json.specs.Read.{read};
 ghost use Rattle.serde_json.specs.View.{view};
 ghost use Rattle.flight_place.specs.Places.{placed, HavePlaces};
 ghost use Rattle.flight_place.specs.Faults.{Refuses, IsUnfit, IsUnread};
+ghost use Rattle.flight_place.specs.Placing.{StopsAt, IsConfirmed};
 ghost use Rattle.flight_place.specs.Rows.{model_visits, import_visit, digest_of, error_visit, row_visits, IsTree, IsRowFault};
 
 use crate::fault::{PlaceFault, PlaceKind};
 use crate::place::{Manner, Place, PlaceTree};
-use crate::walk::walk;
+use crate::placing::{Stop, place_next};
+use crate::reading::{LEVELS, parse};
 use flight_row::{Row, RowKind};
 use flight_text::has_whole_numbers;
 use flight_value::{Atom, List, Text};
+use json::{Reader, Scratch};
 use serde_json::Value;
 use std::alloc::Global;
 use std::str;
@@ -88,10 +91,37 @@ fn model_places(alloc: Global, manner: Manner, payload: &str) -> Result<Vec<Plac
     ensures ok { IfOk result (λ places. HavePlaces manner (model_visits manner (read payload.now)) places.items) }
     ensures err { IfErr result (Refuses manner (model_visits manner (read payload.now))) }
 {
-    let value = parsed(alloc, payload)?;
+    match whole(alloc, manner, payload) {
+        Ok(places) => Ok(places),
+        Err(Stop::NoJson) => Err(PlaceFault::Fault(PlaceKind::BadModel)),
+        Err(Stop::Fault(kind)) => Err(confirmed(alloc, payload, kind)),
+        Err(Stop::Memory) => Err(PlaceFault::Memory),
+    }
+}
+
+/// The places of a value behind which nothing stands.
+fn whole(alloc: Global, manner: Manner, payload: &str) -> Result<Vec<Place>, Stop>
+    ensures ok { IfOk result (λ places. HavePlaces manner (model_visits manner (read payload.now)) places.items) }
+    ensures stops { IfErr result (StopsAt manner (read payload.now)) }
+{
+    let mut scratch = Scratch::new(alloc);
+    let mut reader = Reader::new(payload, &mut scratch)?;
     let mut out = Vec::new(alloc);
-    walk(alloc, manner, &value, &mut out)?;
+    place_next(alloc, manner, &mut reader, LEVELS, &mut out)?;
+    if reader.next().is_some() {
+        return Err(Stop::NoJson);
+    }
     Ok(out)
+}
+
+/// A fault that is the first of a payload if that is JSON.
+fn confirmed(alloc: Global, payload: &str, kind: PlaceKind) -> PlaceFault
+    ensures { IsConfirmed kind (read payload.now) result }
+{
+    match parse(alloc, payload, &mut Scratch::new(alloc)) {
+        Ok(_) => PlaceFault::Fault(kind),
+        Err(fault) => fault,
+    }
 }
 
 /// The place of a client module: its JSON, compact.

@@ -1,14 +1,14 @@
 ghost use Rattle.std.specs.Prelude.{◌≡◌, ◌+◌, ◌++◌, ◌∷◌, [], ◌↔◌, ◌<◌, true, length, IfOk, IfErr, OnOk, IsTrue, slice_set, drop};
-ghost use Rattle.serde_json.specs.View.{view, items_view, members_view};
-ghost use Rattle.flight_place.specs.Places.{is_marked, is_key, mark_visit, count, item_count, member_count, item_numbers, member_numbers, visits, array_visits, marked_visits, object_visits, item_visits, member_visits, token};
+ghost use Rattle.flight_place.specs.Parsed.{data_of, items_data, members_data};
+ghost use Rattle.flight_place.specs.Places.{is_mark, is_marked, is_key, mark_visit, count, item_count, member_count, item_numbers, member_numbers, visits, array_visits, marked_visits, object_visits, item_visits, member_visits, token};
 ghost use Rattle.flight_place.specs.Faults.{Refuses, Adds};
 
 use crate::fault::{PlaceFault, PlaceKind};
+use crate::parsed::Parsed;
 use crate::place::{Manner, Named, Place};
 use crate::token::{is_dollar, is_text, mark_place, token_place};
 use flight_text::{Mark, whole};
 use flight_value::{Atom, List, Text};
-use serde_json::{Map, Value};
 use std::alloc::Global;
 
 /// Adds the places of a value, and gives the value's number.
@@ -16,30 +16,30 @@ use std::alloc::Global;
 pub fn walk(
     alloc: Global,
     manner: Manner,
-    value: &Value,
+    value: &Parsed<'_>,
     out: &mut Vec<Place>,
 ) -> Result<u32, PlaceFault>
     ensures number { IfOk result (λ n. n ≡ length out.old.items) }
-    ensures adds { OnOk result (Adds manner out.old.items out.new.items (visits manner (length out.old.items) (view value.now))) }
-    ensures count { OnOk result (length out.new.items ≡ length out.old.items + count (view value.now)) }
-    ensures err { IfErr result (Refuses manner (visits manner (length out.old.items) (view value.now))) }
+    ensures adds { OnOk result (Adds manner out.old.items out.new.items (visits manner (length out.old.items) (data_of value.now))) }
+    ensures count { OnOk result (length out.new.items ≡ length out.old.items + count (data_of value.now)) }
+    ensures err { IfErr result (Refuses manner (visits manner (length out.old.items) (data_of value.now))) }
 {
     match value {
-        Value::Null => push(out, Place::Atom(Atom::Null)),
-        Value::Bool(b) => push(out, Place::Atom(Atom::Bool(*b))),
-        Value::Number(number) => match whole(number) {
+        Parsed::Null => push(out, Place::Atom(Atom::Null)),
+        Parsed::Bool(b) => push(out, Place::Atom(Atom::Bool(*b))),
+        Parsed::Number(number) => match whole(number) {
             Some(z) => push(out, Place::Atom(Atom::Whole(z))),
             None => Err(PlaceFault::Fault(PlaceKind::Number)),
         },
-        Value::String(text) => push_token(alloc, manner, text.as_str(), out),
-        Value::Array(items) => {
+        Parsed::String(text) => push_token(alloc, manner, text, out),
+        Parsed::Array(items) => {
             if starts_with_mark(items) {
                 walk_element(alloc, manner, items, out)
             } else {
                 walk_array(alloc, manner, items, out)
             }
         }
-        Value::Object(members) => walk_object(alloc, manner, members, out),
+        Parsed::Object(members) => walk_object(alloc, manner, members, out),
     }
 }
 
@@ -48,13 +48,13 @@ pub fn walk(
 fn walk_array(
     alloc: Global,
     manner: Manner,
-    items: &[Value],
+    items: &[Parsed<'_>],
     out: &mut Vec<Place>,
 ) -> Result<u32, PlaceFault>
     ensures number { IfOk result (λ n. n ≡ length out.old.items) }
-    ensures adds { OnOk result (Adds manner out.old.items out.new.items (array_visits manner (length out.old.items) (items_view items.now))) }
-    ensures count { OnOk result (length out.new.items ≡ length out.old.items + 1 + item_count (items_view items.now)) }
-    ensures err { IfErr result (Refuses manner (array_visits manner (length out.old.items) (items_view items.now))) }
+    ensures adds { OnOk result (Adds manner out.old.items out.new.items (array_visits manner (length out.old.items) (items_data items.now))) }
+    ensures count { OnOk result (length out.new.items ≡ length out.old.items + 1 + item_count (items_data items.now)) }
+    ensures err { IfErr result (Refuses manner (array_visits manner (length out.old.items) (items_data items.now))) }
 {
     let number = push(out, unfinished(alloc))?;
     let numbers = walk_items(alloc, manner, items, out)?;
@@ -67,14 +67,14 @@ fn walk_array(
 fn walk_element(
     alloc: Global,
     manner: Manner,
-    items: &[Value],
+    items: &[Parsed<'_>],
     out: &mut Vec<Place>,
 ) -> Result<u32, PlaceFault>
-    requires { is_marked (items_view items.now) ≡ true }
+    requires { is_marked (items_data items.now) ≡ true }
     ensures number { IfOk result (λ n. n ≡ length out.old.items) }
-    ensures adds { OnOk result (Adds manner out.old.items out.new.items (marked_visits manner (length out.old.items) (items_view items.now))) }
-    ensures count { OnOk result (length out.new.items ≡ length out.old.items + 1 + item_count (items_view items.now)) }
-    ensures err { IfErr result (Refuses manner (marked_visits manner (length out.old.items) (items_view items.now))) }
+    ensures adds { OnOk result (Adds manner out.old.items out.new.items (marked_visits manner (length out.old.items) (items_data items.now))) }
+    ensures count { OnOk result (length out.new.items ≡ length out.old.items + 1 + item_count (items_data items.now)) }
+    ensures err { IfErr result (Refuses manner (marked_visits manner (length out.old.items) (items_data items.now))) }
 {
     match items {
         [_, tag, key, props] if may_be_key(key) => {
@@ -97,13 +97,13 @@ fn walk_element(
 fn walk_object(
     alloc: Global,
     manner: Manner,
-    members: &Map<String, Value>,
+    members: &[(&str, Parsed<'_>)],
     out: &mut Vec<Place>,
 ) -> Result<u32, PlaceFault>
     ensures number { IfOk result (λ n. n ≡ length out.old.items) }
-    ensures adds { OnOk result (Adds manner out.old.items out.new.items (object_visits manner (length out.old.items) (members_view members.now.entries))) }
-    ensures count { OnOk result (length out.new.items ≡ length out.old.items + 1 + member_count (members_view members.now.entries)) }
-    ensures err { IfErr result (Refuses manner (object_visits manner (length out.old.items) (members_view members.now.entries))) }
+    ensures adds { OnOk result (Adds manner out.old.items out.new.items (object_visits manner (length out.old.items) (members_data members.now))) }
+    ensures count { OnOk result (length out.new.items ≡ length out.old.items + 1 + member_count (members_data members.now)) }
+    ensures err { IfErr result (Refuses manner (object_visits manner (length out.old.items) (members_data members.now))) }
 {
     let number = push(out, unfinished(alloc))?;
     let numbers = walk_members(alloc, manner, members, out)?;
@@ -116,13 +116,13 @@ fn walk_object(
 fn walk_items(
     alloc: Global,
     manner: Manner,
-    items: &[Value],
+    items: &[Parsed<'_>],
     out: &mut Vec<Place>,
 ) -> Result<Vec<u32>, PlaceFault>
-    ensures adds { OnOk result (Adds manner out.old.items out.new.items (item_visits manner (length out.old.items) (items_view items.now))) }
-    ensures count { OnOk result (length out.new.items ≡ length out.old.items + item_count (items_view items.now)) }
-    ensures numbers { IfOk result (λ numbers. numbers.items ≡ item_numbers (length out.old.items) (items_view items.now)) }
-    ensures err { IfErr result (Refuses manner (item_visits manner (length out.old.items) (items_view items.now))) }
+    ensures adds { OnOk result (Adds manner out.old.items out.new.items (item_visits manner (length out.old.items) (items_data items.now))) }
+    ensures count { OnOk result (length out.new.items ≡ length out.old.items + item_count (items_data items.now)) }
+    ensures numbers { IfOk result (λ numbers. numbers.items ≡ item_numbers (length out.old.items) (items_data items.now)) }
+    ensures err { IfErr result (Refuses manner (item_visits manner (length out.old.items) (items_data items.now))) }
 {
     let mut numbers = Vec::with_capacity(alloc, items.len())?;
     for item in items {
@@ -136,40 +136,50 @@ fn walk_items(
 fn walk_members(
     alloc: Global,
     manner: Manner,
-    members: &Map<String, Value>,
+    members: &[(&str, Parsed<'_>)],
     out: &mut Vec<Place>,
 ) -> Result<Vec<Named>, PlaceFault>
-    ensures adds { OnOk result (Adds manner out.old.items out.new.items (member_visits manner (length out.old.items) (members_view members.now.entries))) }
-    ensures count { OnOk result (length out.new.items ≡ length out.old.items + member_count (members_view members.now.entries)) }
-    ensures numbers { IfOk result (λ numbers. numbers.items ≡ member_numbers (length out.old.items) (members_view members.now.entries)) }
-    ensures err { IfErr result (Refuses manner (member_visits manner (length out.old.items) (members_view members.now.entries))) }
+    ensures adds { OnOk result (Adds manner out.old.items out.new.items (member_visits manner (length out.old.items) (members_data members.now))) }
+    ensures count { OnOk result (length out.new.items ≡ length out.old.items + member_count (members_data members.now)) }
+    ensures numbers { IfOk result (λ numbers. numbers.items ≡ member_numbers (length out.old.items) (members_data members.now)) }
+    ensures err { IfErr result (Refuses manner (member_visits manner (length out.old.items) (members_data members.now))) }
 {
     let mut numbers = Vec::with_capacity(alloc, members.len())?;
-    for (name, member) in members.iter() {
-        let name = Text::new(alloc, name.as_str())?;
-        let place = walk(alloc, manner, member, out)?;
+    for member in members {
+        let name = Text::new(alloc, member.0)?;
+        let place = walk(alloc, manner, &member.1, out)?;
         numbers.push(Named { name, place })?;
     }
     Ok(numbers)
 }
 
 /// Whether items begin with the mark of an element.
-fn starts_with_mark(items: &[Value]) -> bool
-    ensures { IsTrue result ↔ (is_marked (items_view items.now) ≡ true) }
+fn starts_with_mark(items: &[Parsed<'_>]) -> bool
+    ensures { IsTrue result ↔ (is_marked (items_data items.now) ≡ true) }
 {
     match items {
-        [Value::String(mark), ..] => is_dollar(mark.as_str()),
+        [first, ..] => is_mark(first),
+        [] => false,
+    }
+}
+
+/// Whether a value is the mark of an element.
+fn is_mark(value: &Parsed<'_>) -> bool
+    ensures { IsTrue result ↔ (is_mark (data_of value.now) ≡ true) }
+{
+    match value {
+        Parsed::String(text) => is_dollar(text),
         _ => false,
     }
 }
 
 /// Whether a value may be an element's key.
-fn may_be_key(value: &Value) -> bool
-    ensures { IsTrue result ↔ (is_key (view value.now) ≡ true) }
+fn may_be_key(value: &Parsed<'_>) -> bool
+    ensures { IsTrue result ↔ (is_key (data_of value.now) ≡ true) }
 {
     match value {
-        Value::Null => true,
-        Value::String(text) => is_text(text.as_str()),
+        Parsed::Null => true,
+        Parsed::String(text) => is_text(text),
         _ => false,
     }
 }
@@ -186,14 +196,14 @@ fn next_number(out: &[Place]) -> Result<u32, PlaceFault>
 }
 
 /// A place that stands for one whose parts are not known yet.
-fn unfinished(alloc: Global) -> Place
+pub fn unfinished(alloc: Global) -> Place
     ensures { result ≡ Place.Array [] }
 {
     Place::Array(List::new(Vec::new(alloc)))
 }
 
 /// Adds a place, and gives its number.
-fn push(out: &mut Vec<Place>, place: Place) -> Result<u32, PlaceFault>
+pub fn push(out: &mut Vec<Place>, place: Place) -> Result<u32, PlaceFault>
     ensures number { IfOk result (λ n. n ≡ length out.old.items) }
     ensures ok { OnOk result (out.new.items ≡ out.old.items ++ place ∷ []) }
     ensures err { IfErr result (λ e. e ≡ PlaceFault.Memory) }
@@ -239,7 +249,7 @@ fn push_mark(alloc: Global, manner: Manner, out: &mut Vec<Place>) -> Result<(), 
 }
 
 /// Puts a place where one stands.
-fn put(out: &mut Vec<Place>, at: usize, place: Place)
+pub fn put(out: &mut Vec<Place>, at: usize, place: Place)
     requires { at < length out.old.items }
     ensures { out.new.items ≡ slice_set out.old.items at place }
 {

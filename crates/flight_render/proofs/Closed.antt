@@ -27,7 +27,7 @@ use Rattle.flight_render.specs.declared.root.Ground.{Ground}
 use Rattle.flight_render.specs.declared.root.Root.{Root}
 use Rattle.flight_render.specs.declared.root.Root.TheVariants as root
 use Rattle.flight_render.specs.Run.{gave, threw, waits, End}
-use Rattle.flight_render.specs.Values.{arguments, outcomes, outcome_nodes, node_in, tree_of, is_settled, source_end}
+use Rattle.flight_render.specs.Values.{made_in, arguments, outcomes, outcome_nodes, node_in, tree_of, is_settled, source_end}
 use Rattle.flight_render.specs.Bodies.{inner, body_at, node_at}
 use Rattle.flight_render.specs.Jobs.{Job, the_root, element, outcome, known, blank, Value, shown, of_job, failed, stopped, is_server, job_of, argument, argument_in, comes, value_of, Leads, IsFinal, target_of, IsTarget, Stands}
 use Rattle.flight_render.specs.Plain.{flow_slots, last_job, flow_last, flow_item, flow, label_of_kind, made_shape, source_slots, source_shape, flow_shape, NodeIs}
@@ -91,7 +91,7 @@ held_known g v s i n o e held is = go (script_or-arguments g.script.sources (arg
         let first : i ≡ length g.script.sources = (let q = w.1 in let z = a.0 in omega (arith, q, z)) in
         subst (IsKnown g s) (sym (a.1 (length g.script.sources) held))
         (known_alone g s (tree_of o (length g.script.sources) held)
-        (slot_named g [] (length g.script.sources) o (subst (λ z. slice_get (outcomes g) z ≡ Some o) first e) held
+        (slot_named g (made_in []) (length g.script.sources) o (subst (λ z. slice_get (outcomes g) z ≡ Some o) first e) held
         (node_valid o n (node.Promise held) (outcome_valid g v i o e) is).0))
 
 -- ---- slots of nodes
@@ -108,7 +108,7 @@ source_known : (g : Ground) → IsValidGround g → (s : List Bool) (i n : ℕ) 
 source_known g v s i n o e x is = go x is (node_valid o n x (outcome_valid g v i o e) is)
   where
     all : (xs : List Slot) → AllByRecursion (IsValidSlot (length (outcome_nodes o))) xs → AllKnown g s (map (λ y. shown (tree_of o i y)) xs)
-    all xs h = mapped_each (IsValidSlot (length (outcome_nodes o))) (ShowsKnown g s) (λ y. shown (tree_of o i y)) (λ y w. known_alone g s (tree_of o i y) (slot_named g [] i o e y w)) xs h
+    all xs h = mapped_each (IsValidSlot (length (outcome_nodes o))) (ShowsKnown g s) (λ y. shown (tree_of o i y)) (λ y w. known_alone g s (tree_of o i y) (slot_named g (made_in []) i o e y w)) xs h
 
     go : (x : Node) → node_in o n ≡ Some x → AllByRecursion (IsValidSlot (length (outcome_nodes o))) (slots_of x) → AllKnown g s (source_slots o i x)
     go (node.Promise held) q h = (held_known g v s i n o e held q, tt)
@@ -171,7 +171,7 @@ body_known g v s a (threw d) e = tt
 body_known g v s a (waits i) e = tt
 body_known g v s a (gave t) e = let b = bodied g s a (gave t) e in gives_known g v s a b.0 b.1 t b.2
 
-ends_known : (h : End) (g : Ground) (s : List Bool) → OnGave (IsNamed g []) h → OnGave (IsKnown g s) h
+ends_known : (h : End) (g : Ground) (s : List Bool) → OnGave (IsNamed g (made_in [])) h → OnGave (IsKnown g s) h
 ends_known (gave t) g s w = known_alone g s t w
 ends_known (threw d) g s w = tt
 ends_known (waits i) g s w = tt
@@ -180,7 +180,7 @@ comes_known : (g : Ground) → IsValidGround g → (s : List Bool) (j : Job) →
 unfolding comes
 comes_known g v s the_root w h e = body_known g v s [] h e
 comes_known g v s (element n) w h e = body_known g v s (inner n) h e
-comes_known g v s (outcome i) w h e = subst (OnGave (IsKnown g s)) (some-injective _ h e) (ends_known (source_end g s i) g s (source_is-named g v [] (is_settled s i) i (slice_get (outcomes g) i) refl))
+comes_known g v s (outcome i) w h e = subst (OnGave (IsKnown g s)) (some-injective _ h e) (ends_known (source_end g s i) g s (source_is-named g v (made_in []) (is_settled s i) i (slice_get (outcomes g) i) refl))
 comes_known g v s (known x) w h e = subst (OnGave (IsKnown g s)) (some-injective _ h e) w
 comes_known g v s blank w h e = subst (OnGave (IsKnown g s)) (some-injective _ h e) tt
 
@@ -219,13 +219,13 @@ some_at (x ∷ xs) zero l = (x, refl)
 some_at (x ∷ xs) (suc i) l = some_at xs i (omega (arith, l))
 
 -- a node made well that is no server element has a label
-made_label : (g : Ground) (us : List (List Made)) (m : Made) → MadeWell g us m.kind m.slots → is_server (Some m) ≡ false → (l : Label) × (label_of_kind g m.kind ≡ Some l)
-made_label g us m w not = go m.kind w not
+made_label : (g : Ground) (find : Name → Option Made) (m : Made) → MadeWell g find m.kind m.slots → is_server (Some m) ≡ false → (l : Label) × (label_of_kind g m.kind ≡ Some l)
+made_label g find m w not = go m.kind w not
   where
     second : (ts : List Tree) (c : ℕ) (k p : Tree) → ts ≡ k ∷ p ∷ [] → is_some {T = ℕ × Tree} (option_map (λ t. (c, t)) (slice_get ts 1)) ≡ true
     second ts c k p e = ap (λ z. is_some {T = ℕ × Tree} (option_map (λ t. (c, t)) (slice_get z 1))) e
 
-    go : (k : MadeKind) → MadeWell g us k m.slots → is_server (Some (record { kind = k; slots = m.slots })) ≡ false → (l : Label) × (label_of_kind g k ≡ Some l)
+    go : (k : MadeKind) → MadeWell g find k m.slots → is_server (Some (record { kind = k; slots = m.slots })) ≡ false → (l : Label) × (label_of_kind g k ≡ Some l)
     go kind.Array h q = (_, refl)
     go (kind.Object names) h q = (_, refl)
     go kind.Map h q = (_, refl)
@@ -252,9 +252,9 @@ IsAtomTarget (target.atom a) = Unit {0}
 IsAtomTarget (target.node_at k) = ⊥
 
 made_has-shape : (g : Ground) → IsValidGround g → (s : List Bool) (n : Name) (m : Made) → node_at g s n ≡ Some m → job_of g s (shown (tree.Made n)) ≡ None → HasShape g s (key.Made n)
-made_has-shape g v s n m is none = go (made_label g w.1.0 m w.1.1 (not (is_server (Some m)) refl))
+made_has-shape g v s n m is none = go (made_label g (node_at g s) m w.1 (not (is_server (Some m)) refl))
   where
-    w : AllByRecursion (IsKnown g s) m.slots × ((us : List (List Made)) × MadeWell g us m.kind m.slots)
+    w : AllByRecursion (IsKnown g s) m.slots × MadeWell g (node_at g s) m.kind m.slots
     w = node_known g v s n m is
 
     not : (b : Bool) → is_server (Some m) ≡ b → is_server (Some m) ≡ false

@@ -49,7 +49,7 @@ branch-keeps many (tree.Atom (atom.Bool true)) y n y' n' hy hn m w = hy m w
 branch-keeps many (tree.Atom (atom.Bool false)) y n y' n' hy hn m w = hn m w
 branch-keeps many _ y n y' n' hy hn m w = refl
 
-each-keeps : (many : List Bool) (run run' : Tree → Machine → Run Tree) → ((t : Tree) (m : Machine) → Stays many (run t m).step → run' t m ≡ run t m)
+pub each-keeps : (many : List Bool) (run run' : Tree → Machine → Run Tree) → ((t : Tree) (m : Machine) → Stays many (run t m).step → run' t m ≡ run t m)
     → (items so_far : List Tree) (m : Machine) → Stays many (each run items so_far m).step → each run' items so_far m ≡ each run items so_far m
 each-keeps many run run' same [] so_far m w = refl
 each-keeps many run run' same (item ∷ items) so_far m w =

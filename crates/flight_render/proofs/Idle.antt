@@ -1,7 +1,7 @@
 -- A run waits only for a source of the script that is not settled.
 use Rattle.std.specs.Prelude.{◌+ℤ◌, ◌-ℤ◌, ◌*ℤ◌}
 use Rattle.std.proofs.lemmas.Option.{none-some}
-use Rattle.std.proofs.Common.{nat_lt, ap, ◌≡◌, map, Option, Some, None, slice_get, ℤ, zero, suc, length, refl, sym, subst, ◌<◌, ◌&&◌, ℕ, ◌+◌, ◌≤◌, Bool, true, false, cond, pos, negsuc, List, [], ◌∷◌, ◌++◌, arith}
+use Rattle.std.proofs.Common.{nat_lt, ◌≡◌, map, Option, Some, None, slice_get, ℤ, zero, suc, length, refl, sym, subst, ◌<◌, ◌&&◌, ℕ, Bool, true, false, cond, pos, negsuc, List, [], ◌∷◌, ◌++◌, arith}
 use Rattle.std.specs.Prelude.{bytes_eq, codes}
 use Rattle.flight_value.specs.declared.graph.Atom.{Atom}
 use Rattle.flight_value.specs.declared.graph.Atom.TheVariants as atom
@@ -25,7 +25,7 @@ use Rattle.flight_render.specs.Bodies.{element_of, finished, made_by, tables_wit
 use Rattle.flight_render.proofs.Names.{some-injective}
 use Rattle.flight_render.proofs.Sourced.{position_within}
 use Rattle.flight_render.specs.Run.{Machine, Step, gave, threw, waits, Run, pay, on_step, and_then, ends, give, fail}
-use Rattle.flight_render.specs.Values.{is_settled, end_if, outcome_end, arguments, outcomes, source_named, stream_named, source_end, items_in, property_in}
+use Rattle.flight_render.specs.Values.{is_settled, end_if, outcome_end, arguments, source_named, stream_named, source_end, items_in, property_in}
 use Rattle.flight_render.specs.Operators.{depth_digest, range_digest, is_safe, is_big, is_plain, same_plain, counted, added, less, operate, type_digest, missing_digest, operated, key_of, thrown}
 use Rattle.flight_render.specs.Eval.{Context, Attributes, known, make_here, give_or_fail, give_atom, item_at, branch, each, make_bound, make_object, with_attribute, with_children, make_tagged, make_element, eval, eval_all, eval_props, eval_pairs, eval_attrs}
 
@@ -94,6 +94,7 @@ source_waits g settled s l = let o = outcome_there g.script.sources (arguments g
     ended : (o : Outcome) → WaitsRight g settled (outcome_end s o)
     ended (outcome.Value gr) = tt
     ended (outcome.Reject d) = tt
+
     go : (b : Bool) → is_settled settled s ≡ b → (o : Outcome) → WaitsRight g settled (end_if b s (Some o))
     go true e o = ended o
     go false e o = (e, l)
@@ -240,6 +241,7 @@ start_idle cx (Some x) = go (nat_lt (length cx.address) 200)
   where
     last : (t : Tree) (m : Machine) → Idle cx (give_last t m)
     last t m = record { right = tt }
+
     go : (b : Bool) → WaitsRight cx.over cx.settled (cond b (started cx x) (fail depth_digest fresh)).step
     go true = (idle-then cx (eval cx x.expression x.env fresh) give_last (eval-idle cx x.expression x.env fresh) last).right
     go false = tt
@@ -264,7 +266,7 @@ below_idle : (g : Ground) (settled : List Bool) (rest : List ℕ) (tables : List
 below_idle g settled [] tables address here h = h
 below_idle g settled (i ∷ rest) tables address here h =
     below_idle g settled rest (tables_with tables (finished here)) (address ++ i ∷ []) (next_body g settled (tables_with tables (finished here)) (address ++ i ∷ []) (element_of (made_by (finished here) i)))
-      (next_idle g settled (tables_with tables (finished here)) (address ++ i ∷ []) (element_of (made_by (finished here) i)))
+    (next_idle g settled (tables_with tables (finished here)) (address ++ i ∷ []) (element_of (made_by (finished here) i)))
 
 pub body_at-idle : (g : Ground) (settled : List Bool) (address : List ℕ) (b : Run Tree) → body_at g settled address ≡ Some b → WaitsRight g settled b.step
 unfolding body_at

@@ -1,4 +1,5 @@
 pub mod Examples
+pub mod Rendering
 pub mod Grows
 pub mod Names
 pub mod Larger
@@ -12,3 +13,5 @@ pub mod Well
 pub mod There
 pub mod Closed
 pub mod Idle
+pub mod Attempted
+pub mod Dearer

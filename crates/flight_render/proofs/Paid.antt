@@ -33,30 +33,30 @@ paid-then {A} {B} cost r f paid later = go r.step
 pub paid-more : {A : Type 0} (m : Machine) (n : ℕ) (r : Run A) → Paid (m.cost + n) r → Paid m.cost r
 paid-more m n r h = let l = h.least in record { least = omega (arith, l) }
 
-paid_option : {A : Type 0} (d : List ℕ) (o : Option A) (m : Machine) → Paid m.cost (give_or_fail d o m)
+pub paid_option : {A : Type 0} (d : List ℕ) (o : Option A) (m : Machine) → Paid m.cost (give_or_fail d o m)
 paid_option d None m = record { least = omega arith }
 paid_option d (Some a) m = record { least = omega arith }
 
-paid_atom : (s : Step Atom) (m : Machine) → Paid m.cost (give_atom s m)
+pub paid_atom : (s : Step Atom) (m : Machine) → Paid m.cost (give_atom s m)
 paid_atom (gave a) m = record { least = omega arith }
 paid_atom (threw d) m = record { least = omega arith }
 paid_atom (waits s) m = record { least = omega arith }
 
-paid_make : (cx : Context) (k : MadeKind) (slots : List Tree) (m : Machine) → Paid m.cost (make_here cx k slots m)
+pub paid_make : (cx : Context) (k : MadeKind) (slots : List Tree) (m : Machine) → Paid m.cost (make_here cx k slots m)
 paid_make cx k slots m = record { least = omega arith }
 
-paid_fail : (d : List ℕ) (m : Machine) → Paid {A = Tree} m.cost (fail d m)
+pub paid_fail : (d : List ℕ) (m : Machine) → Paid {A = Tree} m.cost (fail d m)
 paid_fail d m = record { least = omega arith }
 
-paid_object : (cx : Context) (ps : List (List ℕ × Tree)) (m : Machine) → Paid m.cost (make_object cx ps m)
+pub paid_object : (cx : Context) (ps : List (List ℕ × Tree)) (m : Machine) → Paid m.cost (make_object cx ps m)
 paid_object cx ps m = record { least = omega arith }
 
-paid_item : (cx : Context) (t i : Tree) (m : Machine) → Paid m.cost (item_at cx t i m)
+pub paid_item : (cx : Context) (t i : Tree) (m : Machine) → Paid m.cost (item_at cx t i m)
 paid_item cx t (tree.Atom (atom.Whole (pos n))) m = paid-then m.cost (give_or_fail type_digest (items_in cx.over (known cx m) t) m) _ (paid_option _ _ m) (λ items k. paid_option missing_digest (slice_get items n) k)
 paid_item cx t (tree.Atom (atom.Whole (negsuc n))) m = paid-then m.cost (give_or_fail type_digest (items_in cx.over (known cx m) t) m) _ (paid_option _ _ m) (λ items k. record { least = omega arith })
 paid_item cx t _ m = record { least = omega arith }
 
-paid_branch : {A : Type 0} (t : Tree) (y n : Machine → Run A) (m : Machine) → Paid m.cost (y m) → Paid m.cost (n m) → Paid m.cost (branch t y n m)
+pub paid_branch : {A : Type 0} (t : Tree) (y n : Machine → Run A) (m : Machine) → Paid m.cost (y m) → Paid m.cost (n m) → Paid m.cost (branch t y n m)
 paid_branch (tree.Atom (atom.Bool true)) y n m hy hn = hy
 paid_branch (tree.Atom (atom.Bool false)) y n m hy hn = hn
 paid_branch _ y n m hy hn = record { least = omega arith }
@@ -65,12 +65,12 @@ pub paid_each : (run : Tree → Machine → Run Tree) → ((t : Tree) (m : Machi
 paid_each run one [] so_far m = record { least = omega arith }
 paid_each run one (item ∷ items) so_far m = paid-then m.cost (run item m) (λ result n. each run items (so_far ++ result ∷ []) n) (one item m) (λ t n. paid_each run one items (so_far ++ t ∷ []) n)
 
-paid_bound : (cx : Context) (action : ℕ) (ts : List Tree) (m : Machine) → Paid m.cost (make_bound cx action ts m)
+pub paid_bound : (cx : Context) (action : ℕ) (ts : List Tree) (m : Machine) → Paid m.cost (make_bound cx action ts m)
 paid_bound cx action ts m =
     paid-then m.cost (make_here cx kind.Array ts m) (λ array n. and_then (make_here cx kind.Promise (array ∷ []) n) (λ promise k. make_here cx (kind.Bound action) (promise ∷ []) k)) (paid_make cx kind.Array ts m)
     (λ array n. paid-then n.cost (make_here cx kind.Promise (array ∷ []) n) (λ promise k. make_here cx (kind.Bound action) (promise ∷ []) k) (paid_make cx kind.Promise (array ∷ []) n) (λ promise k. paid_make cx (kind.Bound action) (promise ∷ []) k))
 
-paid_attribute : (x : Attributes) (name : List ℕ) (t : Tree) (m : Machine) → Paid m.cost (with_attribute x name t m)
+pub paid_attribute : (x : Attributes) (name : List ℕ) (t : Tree) (m : Machine) → Paid m.cost (with_attribute x name t m)
 paid_attribute x name t m = go (bytes_eq name (codes "key"))
   where
     keyed : (s : Step Atom) → Paid {A = Attributes} m.cost (on_step s (λ key n. give (record { key = tree.Atom key; props = x.props }) n) m)
@@ -82,19 +82,19 @@ paid_attribute x name t m = go (bytes_eq name (codes "key"))
     go true = keyed (key_of t)
     go false = record { least = omega arith }
 
-paid_children : (cx : Context) (x : Attributes) (ts : List Tree) (m : Machine) → Paid m.cost (with_children cx x ts m)
+pub paid_children : (cx : Context) (x : Attributes) (ts : List Tree) (m : Machine) → Paid m.cost (with_children cx x ts m)
 paid_children cx x [] m = record { least = omega arith }
 paid_children cx x (t ∷ []) m = record { least = omega arith }
 paid_children cx x (t ∷ u ∷ ts) m =
     paid-then {B = Attributes} m.cost (make_here cx kind.Array (t ∷ u ∷ ts) m) (λ array n. give (record { key = x.key; props = x.props ++ (codes "children", array) ∷ [] }) n) (paid_make cx kind.Array (t ∷ u ∷ ts) m) (λ array n. record { least = omega arith })
 
-paid_tagged : (cx : Context) (t : Tag) (key props : Tree) (m : Machine) → Paid m.cost (make_tagged cx t key props m)
+pub paid_tagged : (cx : Context) (t : Tag) (key props : Tree) (m : Machine) → Paid m.cost (make_tagged cx t key props m)
 paid_tagged cx (tag.Server c) key props m = record { least = omega arith }
 paid_tagged cx (tag.Host name) key props m = record { least = omega arith }
 paid_tagged cx (tag.Client c) key props m = record { least = omega arith }
 paid_tagged cx tag.Suspense key props m = record { least = omega arith }
 
-paid_element : (cx : Context) (t : Tag) (x : Attributes) (m : Machine) → Paid m.cost (make_element cx t x m)
+pub paid_element : (cx : Context) (t : Tag) (x : Attributes) (m : Machine) → Paid m.cost (make_element cx t x m)
 paid_element cx t x m = paid-then m.cost (make_object cx x.props m) (λ props n. make_tagged cx t x.key props n) (record { least = omega arith }) (λ props n. paid_tagged cx t x.key props n)
 
 module _ (cx : Context) where

@@ -16,6 +16,8 @@ use Rattle.flight_value.specs.declared.graph.Node.TheVariants as node
 use Rattle.flight_value.specs.declared.made.Made.{Made}
 use Rattle.flight_value.specs.declared.made.Tree.{Tree}
 use Rattle.flight_value.specs.declared.made.Tree.TheVariants as tree
+use Rattle.flight_value.specs.declared.made.Made.{Made}
+use Rattle.flight_value.specs.declared.name.Name.{Name}
 use Rattle.flight_syntax.specs.declared.expr.Op.{Op}
 use Rattle.flight_syntax.specs.declared.expr.Op.TheVariants as op
 use Rattle.flight_syntax.specs.declared.script.Outcome.{Outcome}
@@ -87,9 +89,9 @@ outcome_valid g v s o e =
     (arguments_valid g g.root v.first)) e
 
 -- a slot of a source is a value of it
-pub slot_named : (g : Ground) (us : List (List Made)) (s : ℕ) (o : Outcome) → slice_get (outcomes g) s ≡ Some o → (x : Slot) → IsValidSlot (length (outcome_nodes o)) x → IsNamed g us (tree_of o s x)
-slot_named g us s o e (slot.Atom a) h = h
-slot_named g us s o e (slot.Node n) h = (o, e, h)
+pub slot_named : (g : Ground) (find : Name → Option Made) (s : ℕ) (o : Outcome) → slice_get (outcomes g) s ≡ Some o → (x : Slot) → IsValidSlot (length (outcome_nodes o)) x → IsNamed g find (tree_of o s x)
+slot_named g find s o e (slot.Atom a) h = h
+slot_named g find s o e (slot.Node n) h = (o, e, h)
 
 pub node_valid : (o : Outcome) (n : ℕ) (x : Node) → IsValidOutcome o → node_in o n ≡ Some x → AllByRecursion (IsValidSlot (length (outcome_nodes o))) (slots_of x)
 node_valid (outcome.Value g) n x v e = each_of (IsValidSlot (length g.nodes)) (slots_of x) ((each_at (IsValidNode g.nodes) g.nodes n x (each_of (IsValidNode g.nodes) g.nodes v.each) e).slots)
@@ -101,50 +103,50 @@ OnGave P (gave a) = P a
 OnGave P (threw d) = Unit {0}
 OnGave P (waits s) = Unit {0}
 
-pub source_is-named : (g : Ground) → IsValidGround g → (us : List (List Made)) (b : Bool) (s : ℕ) (o : Option Outcome) → slice_get (outcomes g) s ≡ o → OnGave (IsNamed g us) (end_if b s o)
-source_is-named g v us true s (Some (outcome.Value gr)) e = slot_named g us s (outcome.Value gr) e gr.root (outcome_valid g v s (outcome.Value gr) e).valid_root
-source_is-named g v us true s (Some (outcome.Reject d)) e = tt
-source_is-named g v us true s None e = tt
-source_is-named g v us false s (Some o) e = tt
-source_is-named g v us false s None e = tt
+pub source_is-named : (g : Ground) → IsValidGround g → (find : Name → Option Made) (b : Bool) (s : ℕ) (o : Option Outcome) → slice_get (outcomes g) s ≡ o → OnGave (IsNamed g find) (end_if b s o)
+source_is-named g v find true s (Some (outcome.Value gr)) e = slot_named g find s (outcome.Value gr) e gr.root (outcome_valid g v s (outcome.Value gr) e).valid_root
+source_is-named g v find true s (Some (outcome.Reject d)) e = tt
+source_is-named g v find true s None e = tt
+source_is-named g v find false s (Some o) e = tt
+source_is-named g v find false s None e = tt
 
 -- ---- what stands in a source's array or object
 
-slots_named : (g : Ground) (us : List (List Made)) (s : ℕ) (o : Outcome) → slice_get (outcomes g) s ≡ Some o → (xs : List Slot) → AllByRecursion (IsValidSlot (length (outcome_nodes o))) xs → AllByRecursion (IsNamed g us) (map (tree_of o s) xs)
-slots_named g us s o e xs h = mapped_each (IsValidSlot (length (outcome_nodes o))) (IsNamed g us) (tree_of o s) (slot_named g us s o e) xs h
+slots_named : (g : Ground) (find : Name → Option Made) (s : ℕ) (o : Outcome) → slice_get (outcomes g) s ≡ Some o → (xs : List Slot) → AllByRecursion (IsValidSlot (length (outcome_nodes o))) xs → AllByRecursion (IsNamed g find) (map (tree_of o s) xs)
+slots_named g find s o e xs h = mapped_each (IsValidSlot (length (outcome_nodes o))) (IsNamed g find) (tree_of o s) (slot_named g find s o e) xs h
 
-prop_slots : (g : Ground) (us : List (List Made)) (s : ℕ) (o : Outcome) → slice_get (outcomes g) s ≡ Some o → (ps : List Prop) → AllByRecursion (IsValidSlot (length (outcome_nodes o))) (map (λ p. p.slot) ps) → AllByRecursion (IsNamed g us) (map (λ p. tree_of o s p.slot) ps)
-prop_slots g us s o e [] h = tt
-prop_slots g us s o e (p ∷ ps) h = (slot_named g us s o e p.slot h.0, prop_slots g us s o e ps h.1)
+prop_slots : (g : Ground) (find : Name → Option Made) (s : ℕ) (o : Outcome) → slice_get (outcomes g) s ≡ Some o → (ps : List Prop) → AllByRecursion (IsValidSlot (length (outcome_nodes o))) (map (λ p. p.slot) ps) → AllByRecursion (IsNamed g find) (map (λ p. tree_of o s p.slot) ps)
+prop_slots g find s o e [] h = tt
+prop_slots g find s o e (p ∷ ps) h = (slot_named g find s o e p.slot h.0, prop_slots g find s o e ps h.1)
 
-pub slot_of_name : (g : Ground) (us : List (List Made)) (name : List ℕ) (names : List (List ℕ)) (ts : List Tree) → AllByRecursion (IsNamed g us) ts → IsNamed g us (named_slot name names ts)
-slot_of_name g us name [] ts h = tt
-slot_of_name g us name (n ∷ ns) [] h = tt
-slot_of_name g us name (n ∷ ns) (t ∷ ts) h = go (bytes_eq name n) (slot_of_name g us name ns ts h.1)
+pub slot_of_name : (g : Ground) (find : Name → Option Made) (name : List ℕ) (names : List (List ℕ)) (ts : List Tree) → AllByRecursion (IsNamed g find) ts → IsNamed g find (named_slot name names ts)
+slot_of_name g find name [] ts h = tt
+slot_of_name g find name (n ∷ ns) [] h = tt
+slot_of_name g find name (n ∷ ns) (t ∷ ts) h = go (bytes_eq name n) (slot_of_name g find name ns ts h.1)
   where
-    go : (b : Bool) → IsNamed g us (named_slot name ns ts) → IsNamed g us (cond b t (named_slot name ns ts))
+    go : (b : Bool) → IsNamed g find (named_slot name ns ts) → IsNamed g find (cond b t (named_slot name ns ts))
     go true rest = h.0
     go false rest = rest
 
-pub source_items : (g : Ground) (us : List (List Made)) (s : ℕ) (o : Outcome) → slice_get (outcomes g) s ≡ Some o → (x : Node) → AllByRecursion (IsValidSlot (length (outcome_nodes o))) (slots_of x) → (ts : List Tree) → node_items o s x ≡ Some ts → AllByRecursion (IsNamed g us) ts
-source_items g us s o e (node.Array items) h ts is = subst (AllByRecursion (IsNamed g us)) (some-injective _ ts is) (slots_named g us s o e items h)
-source_items g us s o e (node.Object props) h ts is = absurd (none-some ts is)
-source_items g us s o e (node.Map pairs) h ts is = absurd (none-some ts is)
-source_items g us s o e (node.Set items) h ts is = absurd (none-some ts is)
-source_items g us s o e (node.Element t k p) h ts is = absurd (none-some ts is)
-source_items g us s o e (node.Promise x) h ts is = absurd (none-some ts is)
-source_items g us s o e (node.Stream f items end) h ts is = absurd (none-some ts is)
-source_items g us s o e (node.Action id bound) h ts is = absurd (none-some ts is)
+pub source_items : (g : Ground) (find : Name → Option Made) (s : ℕ) (o : Outcome) → slice_get (outcomes g) s ≡ Some o → (x : Node) → AllByRecursion (IsValidSlot (length (outcome_nodes o))) (slots_of x) → (ts : List Tree) → node_items o s x ≡ Some ts → AllByRecursion (IsNamed g find) ts
+source_items g find s o e (node.Array items) h ts is = subst (AllByRecursion (IsNamed g find)) (some-injective _ ts is) (slots_named g find s o e items h)
+source_items g find s o e (node.Object props) h ts is = absurd (none-some ts is)
+source_items g find s o e (node.Map pairs) h ts is = absurd (none-some ts is)
+source_items g find s o e (node.Set items) h ts is = absurd (none-some ts is)
+source_items g find s o e (node.Element t k p) h ts is = absurd (none-some ts is)
+source_items g find s o e (node.Promise x) h ts is = absurd (none-some ts is)
+source_items g find s o e (node.Stream f items end) h ts is = absurd (none-some ts is)
+source_items g find s o e (node.Action id bound) h ts is = absurd (none-some ts is)
 
-pub source_property : (g : Ground) (us : List (List Made)) (s : ℕ) (o : Outcome) → slice_get (outcomes g) s ≡ Some o → (name : List ℕ) (x : Node) → AllByRecursion (IsValidSlot (length (outcome_nodes o))) (slots_of x) → (t : Tree) → node_property o s name x ≡ Some t → IsNamed g us t
-source_property g us s o e name (node.Object props) h t is = subst (IsNamed g us) (some-injective _ t is) (slot_of_name g us name (map (λ p. p.name) props) _ (prop_slots g us s o e props h))
-source_property g us s o e name (node.Array items) h t is = absurd (none-some t is)
-source_property g us s o e name (node.Map pairs) h t is = absurd (none-some t is)
-source_property g us s o e name (node.Set items) h t is = absurd (none-some t is)
-source_property g us s o e name (node.Element u k p) h t is = absurd (none-some t is)
-source_property g us s o e name (node.Promise x) h t is = absurd (none-some t is)
-source_property g us s o e name (node.Stream f items end) h t is = absurd (none-some t is)
-source_property g us s o e name (node.Action id bound) h t is = absurd (none-some t is)
+pub source_property : (g : Ground) (find : Name → Option Made) (s : ℕ) (o : Outcome) → slice_get (outcomes g) s ≡ Some o → (name : List ℕ) (x : Node) → AllByRecursion (IsValidSlot (length (outcome_nodes o))) (slots_of x) → (t : Tree) → node_property o s name x ≡ Some t → IsNamed g find t
+source_property g find s o e name (node.Object props) h t is = subst (IsNamed g find) (some-injective _ t is) (slot_of_name g find name (map (λ p. p.name) props) _ (prop_slots g find s o e props h))
+source_property g find s o e name (node.Array items) h t is = absurd (none-some t is)
+source_property g find s o e name (node.Map pairs) h t is = absurd (none-some t is)
+source_property g find s o e name (node.Set items) h t is = absurd (none-some t is)
+source_property g find s o e name (node.Element u k p) h t is = absurd (none-some t is)
+source_property g find s o e name (node.Promise x) h t is = absurd (none-some t is)
+source_property g find s o e name (node.Stream f items end) h t is = absurd (none-some t is)
+source_property g find s o e name (node.Action id bound) h t is = absurd (none-some t is)
 
 -- ---- atoms
 

@@ -1,7 +1,7 @@
 -- Sums over lists of distinct addresses.
 use Rattle.std.proofs.Common.{◌≡◌, ℕ, ◌+◌, ◌≤◌, ◌<◌, Bool, inl, inr, List, [], ◌∷◌, map, refl, sym, ap, ◌∙◌, subst, arith}
 use Rattle.flight_render.specs.declared.root.Ground.{Ground}
-use Rattle.flight_render.specs.Costs.{In, Distinct, total_of, Total, TotalOver}
+use Rattle.flight_render.specs.Costs.{In, Rendered, Distinct, total_of, Total, TotalOver}
 use Rattle.flight_render.specs.Laws.{Grows}
 use Rattle.flight_render.proofs.Larger.{rendered-keeps}
 
@@ -70,3 +70,15 @@ total-within g s n fuel x y =
     let a = x.is_total in
     let b = y.more in
     omega (arith, h, a, b)
+
+-- no body that is rendered and finishes costs more than the total
+within_total : (p : Pair) (xs : List Pair) → In p xs → p.1 ≤ total_of xs
+within_total p [] i = elim i [ ]
+within_total p (x ∷ xs) (inl e) = let h = ap (λ z. z.1) e in omega (arith, h)
+within_total p (x ∷ xs) (inr i) = let h = within_total p xs i in omega (arith, h)
+
+pub one_within : (g : Ground) (s : List Bool) (n : ℕ) (a : List ℕ) (c : ℕ) → Total g s n → Rendered g s a c → c ≤ n
+one_within g s n a c x r =
+    let h = within_total (a, c) x.counted (x.each a c r) in
+    let e = x.is_total in
+    omega (arith, h, e)

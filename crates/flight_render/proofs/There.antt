@@ -7,6 +7,8 @@ use Rattle.flight_value.specs.declared.graph.Graph.{Graph}
 use Rattle.flight_value.specs.declared.graph.Slot.{Slot}
 use Rattle.flight_value.specs.declared.graph.Slot.TheVariants as slot
 use Rattle.flight_value.specs.declared.made.Made.{Made}
+use Rattle.flight_value.specs.declared.made.MadeKind.{MadeKind}
+use Rattle.flight_value.specs.declared.made.MadeKind.TheVariants as kind
 use Rattle.flight_value.specs.declared.made.Tree.{Tree}
 use Rattle.flight_value.specs.declared.made.Tree.TheVariants as tree
 use Rattle.flight_value.specs.declared.name.Name.{Name}
@@ -23,7 +25,7 @@ use Rattle.flight_render.specs.Eval.{Context, eval}
 use Rattle.flight_render.specs.Body.{Start, started, run_start, params_of, component_start, args_tree, action_start, root_start, body, root_body, fresh, give_last}
 use Rattle.flight_render.specs.Bodies.{inner, element_of, is_finished, finished, made_by, tables_with, next_body, body_at, node_at, tables_at, tables_for, TabledFor}
 use Rattle.flight_render.specs.Laws.{Met, Own, AllOwn, LeadBack, TablesLeadBack}
-use Rattle.flight_render.specs.Valid.{IsLawful, IsDeclared, IsValidGround, IsNamed, MadeWell, IsMade, TablesMade, AreTables, BodyMade, IsKnown}
+use Rattle.flight_render.specs.Valid.{IsLawful, IsDeclared, IsValidGround, IsNamed, MadeAs, IsArrayKind, IsObjectKind, IsPromiseKind, MadeWell, IsMade, TablesMade, AreTables, BodyMade, IsKnown}
 use Rattle.flight_render.proofs.Names.{some-injective, back_at, tables_snoc, own_table}
 use Rattle.flight_render.proofs.Larger.{finished-is, node_body}
 use Rattle.flight_render.proofs.Falling.{IsGave, gave_is, body_at-good, body_with-tables, tables_of-element}
@@ -34,11 +36,11 @@ use Rattle.flight_render.proofs.Well.{has_added, named_has, made_has, Well, item
 
 -- a run that is made well, with the cost of its value
 made_run : (cx : Context) (v : IsValidGround cx.over) (b : TablesLeadBack [] cx.address cx.tables) (t : TablesMade cx.over cx.tables) (r : Run Tree)
-    → Well cx v b t (λ made u. IsNamed cx.over (cx.tables ++ made ∷ []) u) [] r → BodyMade cx.over cx.tables (and_then r give_last)
+    → Well cx v b t (λ made u. IsNamed cx.over (made_in (cx.tables ++ made ∷ [])) u) [] r → BodyMade cx.over cx.tables (and_then r give_last)
 made_run cx v b t r w = go r.step w.value
   where
-    go : (s : Step Tree) → OnGave (IsNamed cx.over (cx.tables ++ r.after.made ∷ [])) s → BodyMade cx.over cx.tables (on_step s give_last r.after)
-    go (gave u) h = record { nodes = w.nodes; value = λ x is. subst (IsNamed cx.over (cx.tables ++ r.after.made ∷ [])) (gave_is u x is) h }
+    go : (s : Step Tree) → OnGave (IsNamed cx.over (made_in (cx.tables ++ r.after.made ∷ []))) s → BodyMade cx.over cx.tables (on_step s give_last r.after)
+    go (gave u) h = record { nodes = w.nodes; value = λ x is. subst (IsNamed cx.over (made_in (cx.tables ++ r.after.made ∷ []))) (gave_is u x is) h }
     go (threw d) h = record { nodes = w.nodes; value = λ x is. elim (subst IsGave (sym is) tt) [ ] }
     go (waits i) h = record { nodes = w.nodes; value = λ x is. elim (subst IsGave (sym is) tt) [ ] }
 
@@ -47,7 +49,7 @@ made_fail g tables d = record { nodes = tt; value = λ x is. elim (subst IsGave 
 
 -- a start whose expression is lawful and whose variables are named
 abbrev StartsWell : Ground → List (List Made) → Start → Type 0
-StartsWell g tables x = ((scope : ℕ) × IsLawful g scope x.expression) × AllByRecursion (IsNamed g (tables ++ [] ∷ [])) x.env
+StartsWell g tables x = ((scope : ℕ) × IsLawful g scope x.expression) × AllByRecursion (IsNamed g (made_in (tables ++ [] ∷ []))) x.env
 
 made_start : (cx : Context) → IsValidGround cx.over → TablesLeadBack [] cx.address cx.tables → TablesMade cx.over cx.tables → (o : Option Start) → ((x : Start) → o ≡ Some x → StartsWell cx.over cx.tables x) → BodyMade cx.over cx.tables (run_start cx o)
 made_start cx v b t None h = made_fail cx.over cx.tables type_digest
@@ -70,15 +72,15 @@ tables_made g ts made t n =
 
 -- ---- what a body begins with
 
-params_named : (g : Ground) (us : List (List Made)) (props : Tree) → ((name : List ℕ) (u : Tree) → property_in g us name props ≡ Some u → IsNamed g us u) → (params : List (List ℕ)) → AllByRecursion (IsNamed g (us ++ [] ∷ [])) (params_of g us props params)
+params_named : (g : Ground) (us : List (List Made)) (props : Tree) → ((name : List ℕ) (u : Tree) → property_in g us name props ≡ Some u → IsNamed g (made_in us) u) → (params : List (List ℕ)) → AllByRecursion (IsNamed g (made_in (us ++ [] ∷ []))) (params_of g us props params)
 params_named g us props h [] = tt
 params_named g us props h (name ∷ names) = (go (property_in g us name props) refl, params_named g us props h names)
   where
-    go : (o : Option Tree) → property_in g us name props ≡ o → IsNamed g (us ++ [] ∷ []) (unwrap_or o undefined)
+    go : (o : Option Tree) → property_in g us name props ≡ o → IsNamed g (made_in (us ++ [] ∷ [])) (unwrap_or o undefined)
     go None e = tt
     go (Some u) e = named_has g us (us ++ [] ∷ []) (has_added us []) u (h name u e)
 
-component_well : (g : Ground) → IsValidGround g → (us : List (List Made)) (props : Tree) → ((name : List ℕ) (u : Tree) → property_in g us name props ≡ Some u → IsNamed g us u)
+component_well : (g : Ground) → IsValidGround g → (us : List (List Made)) (props : Tree) → ((name : List ℕ) (u : Tree) → property_in g us name props ≡ Some u → IsNamed g (made_in us) u)
     → (o : Option Declared) → ((d : Declared) → o ≡ Some d → IsDeclared g d) → (x : Start) → component_start g us o props ≡ Some x → StartsWell g us x
 component_well g v us props h None l x is = absurd (none-some x is)
 component_well g v us props h (Some (declared.Client name import)) l x is = absurd (none-some x is)
@@ -104,11 +106,11 @@ made_root g v s = made_start (record { over = g; settled = s; address = []; tabl
     found None d e = absurd (none-some d e)
     found (Some i) d e = declared_lawful g v i d e
 
-    items : (args : Graph) (o : Option (List Tree)) → items_in g [] (args_tree g args) ≡ o → AllByRecursion (IsNamed g ([] ∷ [])) (unwrap_or o [])
+    items : (args : Graph) (o : Option (List Tree)) → items_in g [] (args_tree g args) ≡ o → AllByRecursion (IsNamed g (made_in ([] ∷ []))) (unwrap_or o [])
     items args None e = tt
     items args (Some ts) e = from_slot args.root e
       where
-        from_slot : (x : Slot) → items_in g [] (tree_of (outcome.Value args) (length g.script.sources) x) ≡ Some ts → AllByRecursion (IsNamed g ([] ∷ [])) ts
+        from_slot : (x : Slot) → items_in g [] (tree_of (outcome.Value args) (length g.script.sources) x) ≡ Some ts → AllByRecursion (IsNamed g (made_in ([] ∷ []))) ts
         from_slot (slot.Atom a) q = absurd (none-some ts q)
         from_slot (slot.Node n) q = items_fine (record { over = g; settled = s; address = []; tables = [] }) v tt tt [] tt (tree.FromSource (length g.script.sources) n) ts q
 
@@ -228,7 +230,7 @@ there g v s a b is fin k n own m e = ⊎_elim (λ w. here w.0) (λ w. above w (s
         let c = t.prefixes n.render n.serial x w (sym (table_below [] a n.render n.serial (tables_at g s a) b.after.made t.back w) ∙ q) in
         ap (λ z. made_by (finished z) n.serial) c.1 ∙ ap (λ z. made_by z n.serial) (finished-is c.0 c.2) ∙ ap (λ z. slice_get z n.serial) c.3 ∙ r
 
-known_named : (g : Ground) → IsValidGround g → (s : List Bool) (a : List ℕ) (b : Run Tree) → body_at g s a ≡ Some b → is_finished b.step ≡ true → (k : ℕ) (t : Tree) → Own a k t → IsNamed g (tables_at g s a ++ b.after.made ∷ []) t → IsKnown g s t
+known_named : (g : Ground) → IsValidGround g → (s : List Bool) (a : List ℕ) (b : Run Tree) → body_at g s a ≡ Some b → is_finished b.step ≡ true → (k : ℕ) (t : Tree) → Own a k t → IsNamed g (made_in (tables_at g s a ++ b.after.made ∷ [])) t → IsKnown g s t
 known_named g v s a b is fin k (tree.Made n) own h = (h.0, there g v s a b is fin k n own h.0 h.1)
 known_named g v s a b is fin k (tree.Atom x) own h = h
 known_named g v s a b is fin k (tree.FromSource i n) own h = h
@@ -237,7 +239,7 @@ known_named g v s a b is fin k (tree.Stream i) own h = h
 known_named g v s a b is fin k (tree.Action i) own h = h
 
 -- what names no node made is there
-pub known_alone : (g : Ground) (s : List Bool) (t : Tree) → IsNamed g [] t → IsKnown g s t
+pub known_alone : (g : Ground) (s : List Bool) (t : Tree) → IsNamed g (made_in []) t → IsKnown g s t
 known_alone g s (tree.Made n) h = absurd (none-some h.0 h.1)
 known_alone g s (tree.Atom x) h = h
 known_alone g s (tree.FromSource i n) h = h
@@ -245,9 +247,33 @@ known_alone g s (tree.Promise i) h = h
 known_alone g s (tree.Stream i) h = h
 known_alone g s (tree.Action i) h = h
 
+-- a node of a kind that a body may name is there as that kind
+as_known : (g : Ground) → IsValidGround g → (s : List Bool) (a : List ℕ) (b : Run Tree) → body_at g s a ≡ Some b → is_finished b.step ≡ true → (k : ℕ) (P : MadeKind → Type 0) (t : Tree) → Own a k t → MadeAs (made_in (tables_at g s a ++ b.after.made ∷ [])) P t → MadeAs (node_at g s) P t
+as_known g v s a b is fin k P (tree.Made n) own h = (h.0, there g v s a b is fin k n own h.0 h.1, h.2)
+as_known g v s a b is fin k P (tree.Atom x) own h = elim h [ ]
+as_known g v s a b is fin k P (tree.FromSource i n) own h = elim h [ ]
+as_known g v s a b is fin k P (tree.Promise i) own h = elim h [ ]
+as_known g v s a b is fin k P (tree.Stream i) own h = elim h [ ]
+as_known g v s a b is fin k P (tree.Action i) own h = elim h [ ]
+
+well_known : (g : Ground) → IsValidGround g → (s : List Bool) (a : List ℕ) (b : Run Tree) → body_at g s a ≡ Some b → is_finished b.step ≡ true → (k : ℕ) (j : MadeKind) (slots : List Tree) → AllOwn a k slots
+    → MadeWell g (made_in (tables_at g s a ++ b.after.made ∷ [])) j slots → MadeWell g (node_at g s) j slots
+well_known g v s a b is fin k kind.Array slots own h = h
+well_known g v s a b is fin k (kind.Object names) slots own h = h
+well_known g v s a b is fin k kind.Map slots own h = h
+well_known g v s a b is fin k kind.Set slots own h = h
+well_known g v s a b is fin k kind.Element slots own h = h
+well_known g v s a b is fin k (kind.Server c) slots own h =
+    let o : AllOwn a k (h.1.0 ∷ h.1.1.0 ∷ []) = subst (AllOwn a k) h.1.1.1 own in
+    (h.0, (h.1.0, (h.1.1.0, h.1.1.1, h.1.1.2, as_known g v s a b is fin k IsObjectKind h.1.1.0 o.1.0 h.1.1.3)))
+well_known g v s a b is fin k kind.Promise slots own h =
+    let o : AllOwn a k (h.0 ∷ []) = subst (AllOwn a k) h.1 own in (h.0, h.1, as_known g v s a b is fin k IsArrayKind h.0 o.0 h.2)
+well_known g v s a b is fin k (kind.Bound c) slots own h =
+    let o : AllOwn a k (h.1.0 ∷ []) = subst (AllOwn a k) h.1.1 own in (h.0, (h.1.0, h.1.1, as_known g v s a b is fin k IsPromiseKind h.1.0 o.0 h.1.2))
+
 -- the slots of a node that is there are there, and it is made well
-pub node_known : (g : Ground) → IsValidGround g → (s : List Bool) (n : Name) (m : Made) → node_at g s n ≡ Some m → AllByRecursion (IsKnown g s) m.slots × ((us : List (List Made)) × MadeWell g us m.kind m.slots)
-node_known g v s n m is = (all m.slots (back_at n.render b.0.after.made n.serial m (body_at-good g s n.render b.0 b.1).nodes b.3) made.0, (tables_at g s n.render ++ b.0.after.made ∷ [], made.1))
+pub node_known : (g : Ground) → IsValidGround g → (s : List Bool) (n : Name) (m : Made) → node_at g s n ≡ Some m → AllByRecursion (IsKnown g s) m.slots × MadeWell g (node_at g s) m.kind m.slots
+node_known g v s n m is = (all m.slots own made.0, well_known g v s n.render b.0 b.1 b.2 n.serial m.kind m.slots own made.1)
   where
     b : (b : Run Tree) × (body_at g s n.render ≡ Some b) × (is_finished b.step ≡ true) × (slice_get b.after.made n.serial ≡ Some m)
     b = node_body g s n m is
@@ -255,10 +281,13 @@ node_known g v s n m is = (all m.slots (back_at n.render b.0.after.made n.serial
     t : Tabled g s n.render b.0
     t = body_tabled g v s n.render b.0 b.1
 
+    own : AllOwn n.render n.serial m.slots
+    own = back_at n.render b.0.after.made n.serial m (body_at-good g s n.render b.0 b.1).nodes b.3
+
     made : IsMade g (tables_at g s n.render ++ b.0.after.made ∷ []) m
     made = each_at (IsMade g (tables_at g s n.render ++ b.0.after.made ∷ [])) b.0.after.made n.serial m t.here.nodes b.3
 
-    all : (ts : List Tree) → AllOwn n.render n.serial ts → AllByRecursion (IsNamed g (tables_at g s n.render ++ b.0.after.made ∷ [])) ts → AllByRecursion (IsKnown g s) ts
+    all : (ts : List Tree) → AllOwn n.render n.serial ts → AllByRecursion (IsNamed g (made_in (tables_at g s n.render ++ b.0.after.made ∷ []))) ts → AllByRecursion (IsKnown g s) ts
     all [] o h = tt
     all (x ∷ ts) o h = (known_named g v s n.render b.0 b.1 b.2 n.serial x o.0 h.0, all ts o.1 h.1)
 

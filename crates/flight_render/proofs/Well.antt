@@ -67,7 +67,7 @@ pub has_added : (ts : List (List Made)) (made : List Made) → Has ts (ts ++ mad
 unfolding in_table
 has_added ts made n m h = table_added ts made (length n.render) n.serial m h
 
-pub named_has : (g : Ground) (us vs : List (List Made)) → Has us vs → (t : Tree) → IsNamed g us t → IsNamed g vs t
+pub named_has : (g : Ground) (us vs : List (List Made)) → Has us vs → (t : Tree) → IsNamed g (made_in us) t → IsNamed g (made_in vs) t
 named_has g us vs has (tree.Made n) h = (h.0, has n h.0 h.1)
 named_has g us vs has (tree.Atom a) h = h
 named_has g us vs has (tree.FromSource s n) h = h
@@ -75,7 +75,7 @@ named_has g us vs has (tree.Promise s) h = h
 named_has g us vs has (tree.Stream s) h = h
 named_has g us vs has (tree.Action s) h = h
 
-as_has : (us vs : List (List Made)) (P : MadeKind → Type 0) → Has us vs → (t : Tree) → MadeAs us P t → MadeAs vs P t
+as_has : (us vs : List (List Made)) (P : MadeKind → Type 0) → Has us vs → (t : Tree) → MadeAs (made_in us) P t → MadeAs (made_in vs) P t
 as_has us vs P has (tree.Made n) h = (h.0, has n h.0 h.1, h.2)
 as_has us vs P has (tree.Atom a) h = elim h [ ]
 as_has us vs P has (tree.FromSource s n) h = elim h [ ]
@@ -83,7 +83,7 @@ as_has us vs P has (tree.Promise s) h = elim h [ ]
 as_has us vs P has (tree.Stream s) h = elim h [ ]
 as_has us vs P has (tree.Action s) h = elim h [ ]
 
-well_has : (g : Ground) (us vs : List (List Made)) → Has us vs → (k : MadeKind) (slots : List Tree) → MadeWell g us k slots → MadeWell g vs k slots
+well_has : (g : Ground) (us vs : List (List Made)) → Has us vs → (k : MadeKind) (slots : List Tree) → MadeWell g (made_in us) k slots → MadeWell g (made_in vs) k slots
 well_has g us vs has kind.Array slots h = h
 well_has g us vs has (kind.Object names) slots h = h
 well_has g us vs has kind.Map slots h = h
@@ -94,7 +94,7 @@ well_has g us vs has kind.Promise slots h = (h.0, h.1, as_has us vs IsArrayKind 
 well_has g us vs has (kind.Bound a) slots h = (h.0, (h.1.0, h.1.1, as_has us vs IsPromiseKind has h.1.0 h.1.2))
 
 pub made_has : (g : Ground) (us vs : List (List Made)) → Has us vs → (m : Made) → IsMade g us m → IsMade g vs m
-made_has g us vs has m h = (each_map (IsNamed g us) (IsNamed g vs) (named_has g us vs has) m.slots h.0, well_has g us vs has m.kind m.slots h.1)
+made_has g us vs has m h = (each_map (IsNamed g (made_in us)) (IsNamed g (made_in vs)) (named_has g us vs has) m.slots h.0, well_has g us vs has m.kind m.slots h.1)
 
 -- a node of tables that are made well is made well
 pub found_made : (P : Made → Type 0) (us : List (List Made)) → AllByRecursion (AllByRecursion P) us → (n : Name) (m : Made) → made_in us n ≡ Some m → P m
@@ -112,10 +112,10 @@ module _ (cx : Context) (valid : IsValidGround cx.over) (back : TablesLeadBack [
   with_made made = cx.tables ++ made ∷ []
 
   abbrev Fine : List Made → Tree → Type 0
-  Fine made t = IsNamed cx.over (with_made made) t
+  Fine made t = IsNamed cx.over (made_in (with_made made)) t
 
   abbrev AllFine : List Made → List Tree → Type 0
-  AllFine made ts = AllByRecursion (IsNamed cx.over (with_made made)) ts
+  AllFine made ts = AllByRecursion (IsNamed cx.over (made_in (with_made made))) ts
 
   abbrev Nodes : List Made → Type 0
   Nodes made = AllByRecursion (IsMade cx.over (with_made made)) made
@@ -167,9 +167,9 @@ module _ (cx : Context) (valid : IsValidGround cx.over) (back : TablesLeadBack [
 
   -- a node that is made well
   FineAs : (MadeKind → Type 0) → List Made → Tree → Type 0
-  FineAs Q made t = Fine made t × MadeAs (with_made made) Q t
+  FineAs Q made t = Fine made t × MadeAs (made_in (with_made made)) Q t
 
-  well_make : (Q : MadeKind → Type 0) (k : MadeKind) (slots : List Tree) (m : Machine) → Q k → Nodes m.made → AllFine m.made slots → MadeWell cx.over (with_made m.made) k slots → Well (FineAs Q) m.made (make_here cx k slots m)
+  well_make : (Q : MadeKind → Type 0) (k : MadeKind) (slots : List Tree) (m : Machine) → Q k → Nodes m.made → AllFine m.made slots → MadeWell cx.over (made_in (with_made m.made)) k slots → Well (FineAs Q) m.made (make_here cx k slots m)
   unfolding FineAs
   well_make Q k slots m is n h w =
       record { grows = (x ∷ [], refl); nodes = each_append (IsMade cx.over (with_made after)) m.made (x ∷ []) old (new, tt); value = ((x, found), (x, found, is)) }
@@ -196,7 +196,7 @@ module _ (cx : Context) (valid : IsValidGround cx.over) (back : TablesLeadBack [
   AnyKind k = Unit {0}
 
   -- where the kind does not matter
-  well_node : (k : MadeKind) (slots : List Tree) (m : Machine) → Nodes m.made → AllFine m.made slots → MadeWell cx.over (with_made m.made) k slots → Well Fine m.made (make_here cx k slots m)
+  well_node : (k : MadeKind) (slots : List Tree) (m : Machine) → Nodes m.made → AllFine m.made slots → MadeWell cx.over (made_in (with_made m.made)) k slots → Well Fine m.made (make_here cx k slots m)
   unfolding FineAs AnyKind
   well_node k slots m n h w = let r = well_make AnyKind k slots m tt n h w in record { grows = r.grows; nodes = r.nodes; value = r.value.0 }
 
@@ -232,7 +232,7 @@ module _ (cx : Context) (valid : IsValidGround cx.over) (back : TablesLeadBack [
     where
       go : (j : MadeKind) → made_property name (record { kind = j; slots = x.slots }) ≡ Some t → Fine made t
       go kind.Array e = absurd (none-some t e)
-      go (kind.Object names) e = subst (Fine made) (some-injective (named_slot name names x.slots) t e) (slot_of_name cx.over (with_made made) name names x.slots h)
+      go (kind.Object names) e = subst (Fine made) (some-injective (named_slot name names x.slots) t e) (slot_of_name cx.over (made_in (with_made made)) name names x.slots h)
       go kind.Map e = absurd (none-some t e)
       go kind.Set e = absurd (none-some t e)
       go kind.Element e = absurd (none-some t e)
@@ -244,7 +244,7 @@ module _ (cx : Context) (valid : IsValidGround cx.over) (back : TablesLeadBack [
   items_fine made n (tree.Made name) items is = read_fine (AllFine made) made_items (made_in (with_made made) name) (λ x e ys f. made_items-fine made x (node_made made n name x e).0 ys f) items is
   items_fine made n (tree.FromSource s i) items is =
       read_fine (AllFine made) (λ o. option_and_then (node_items o s) (node_in o i)) (slice_get (outcomes cx.over) s)
-      (λ o e ys f. read_fine (AllFine made) (node_items o s) (node_in o i) (λ x q zs r. source_items cx.over (with_made made) s o e x (node_valid o i x (outcome_valid cx.over valid s o e) q) zs r) ys f) items is
+      (λ o e ys f. read_fine (AllFine made) (node_items o s) (node_in o i) (λ x q zs r. source_items cx.over (made_in (with_made made)) s o e x (node_valid o i x (outcome_valid cx.over valid s o e) q) zs r) ys f) items is
   items_fine made n (tree.Atom a) items is = absurd (none-some items is)
   items_fine made n (tree.Promise s) items is = absurd (none-some items is)
   items_fine made n (tree.Stream s) items is = absurd (none-some items is)
@@ -254,7 +254,7 @@ module _ (cx : Context) (valid : IsValidGround cx.over) (back : TablesLeadBack [
   property_fine made n name (tree.Made q) u is = read_fine (Fine made) (made_property name) (made_in (with_made made) q) (λ x e y f. made_property-fine made name x (node_made made n q x e).0 y f) u is
   property_fine made n name (tree.FromSource s i) u is =
       read_fine (Fine made) (λ o. option_and_then (node_property o s name) (node_in o i)) (slice_get (outcomes cx.over) s)
-      (λ o e y f. read_fine (Fine made) (node_property o s name) (node_in o i) (λ x q z r. source_property cx.over (with_made made) s o e name x (node_valid o i x (outcome_valid cx.over valid s o e) q) z r) y f) u is
+      (λ o e y f. read_fine (Fine made) (node_property o s name) (node_in o i) (λ x q z r. source_property cx.over (made_in (with_made made)) s o e name x (node_valid o i x (outcome_valid cx.over valid s o e) q) z r) y f) u is
   property_fine made n name (tree.Atom a) u is = absurd (none-some u is)
   property_fine made n name (tree.Promise s) u is = absurd (none-some u is)
   property_fine made n name (tree.Stream s) u is = absurd (none-some u is)
@@ -432,7 +432,7 @@ module _ (cx : Context) (valid : IsValidGround cx.over) (back : TablesLeadBack [
     eval-well scope (term.source name) env m l n h =
         well_then (λ made s. Unit {0}) Fine m.made (give_or_fail type_digest (source_named cx.over name) (pay 1 m)) (λ s k. ends (source_end cx.over cx.settled s) k)
         (well_option (λ made s. Unit {0}) type_digest (source_named cx.over name) (pay 1 m) n (λ s is. tt))
-        (λ s k e nk own. well_end Fine (source_end cx.over cx.settled s) k nk (source_is-named cx.over valid (with_made k.made) (is_settled cx.settled s) s (slice_get (outcomes cx.over) s) refl))
+        (λ s k e nk own. well_end Fine (source_end cx.over cx.settled s) k nk (source_is-named cx.over valid (made_in (with_made k.made)) (is_settled cx.settled s) s (slice_get (outcomes cx.over) s) refl))
     eval-well scope (term.promise name) env m l n h =
         well_then (λ made s. s < length cx.over.script.sources) Fine m.made (give_or_fail type_digest (source_named cx.over name) (pay 1 m)) (λ s k. give (tree.Promise s) k)
         (well_option (λ made s. s < length cx.over.script.sources) type_digest (source_named cx.over name) (pay 1 m) n (λ s is. position_within (λ d. bytes_eq name d.name) cx.over.script.sources s is))

@@ -9,3 +9,4 @@ pub mod Plain
 pub mod Costs
 pub mod Laws
 pub mod Valid
+pub mod Attempt

@@ -1,5 +1,5 @@
--- Which grounds are valid, which nodes a body makes, and which jobs belong to a ground.
-use Rattle.std.specs.Prelude.{ℕ, suc, ◌+◌, ◌-◌, ◌^◌, ◌≡◌, ◌≢◌, ◌<◌, ◌≤ℤ◌, pos, negsuc, Bool, true, List, [], ◌∷◌, ◌++◌, length, Some, slice_get, All, codes, is_some}
+-- Which programs with their data are valid, which nodes a body makes, and which jobs belong to them.
+use Rattle.std.specs.Prelude.{ℕ, suc, ◌+◌, ◌-◌, ◌^◌, ◌≡◌, ◌≢◌, ◌<◌, ◌≤ℤ◌, pos, negsuc, Bool, true, List, [], ◌∷◌, ◌++◌, length, Some, slice_get, All, codes, is_some, Option}
 use Rattle.std.specs.List.{AllByRecursion}
 use Rattle.flight_value.specs.Date.{IsDate}
 use Rattle.flight_value.specs.Graph.{IsSafe, IsValid, IsValidAtom, IsValidSlot, Ascend, slots_of}
@@ -15,6 +15,7 @@ use Rattle.flight_value.specs.declared.made.MadeKind.TheVariants as kind
 use Rattle.flight_value.specs.declared.made.Made.{Made}
 use Rattle.flight_value.specs.declared.made.Tree.{Tree}
 use Rattle.flight_value.specs.declared.made.Tree.TheVariants as tree
+use Rattle.flight_value.specs.declared.name.Name.{Name}
 use Rattle.flight_syntax.specs.declared.expr.Expr.{Expr}
 use Rattle.flight_syntax.specs.declared.expr.Tag.{Tag}
 use Rattle.flight_syntax.specs.declared.expr.Tag.TheVariants as tag
@@ -124,7 +125,7 @@ abbrev mutual
   PairsLawful g scope term.no_pairs = Unit {0}
   PairsLawful g scope (term.pair_and key value rest) = IsLawful g scope key × IsLawful g scope value × PairsLawful g scope rest
 
--- ---- grounds
+-- ---- programs with their data
 
 abbrev pub IsDeclared : Ground → Declared → Type 0
 IsDeclared g (declared.Server name params body) = NoneTwice params × IsLawful g (length params) (term_of body)
@@ -177,19 +178,19 @@ pub record IsValidGround (g : Ground) : Type 0 where
 
 -- ---- the nodes that a body makes
 
--- a value whose numbers are in range, and whose node made is there
-abbrev pub IsNamed : Ground → List (List Made) → Tree → Type 0
-IsNamed g tables (tree.Atom a) = IsValidAtom a
-IsNamed g tables (tree.Made n) = (m : Made) × (made_in tables n ≡ Some m)
-IsNamed g tables (tree.FromSource source n) = (o : Outcome) × (slice_get (outcomes g) source ≡ Some o) × (n < length (outcome_nodes o))
-IsNamed g tables (tree.Promise source) = source < length g.script.sources
-IsNamed g tables (tree.Stream stream) = stream < length g.script.streams
-IsNamed g tables (tree.Action action) = IsActionAt g action
+-- a value whose numbers are in range, and whose node made is found
+abbrev pub IsNamed : Ground → (Name → Option Made) → Tree → Type 0
+IsNamed g find (tree.Atom a) = IsValidAtom a
+IsNamed g find (tree.Made n) = (m : Made) × (find n ≡ Some m)
+IsNamed g find (tree.FromSource source n) = (o : Outcome) × (slice_get (outcomes g) source ≡ Some o) × (n < length (outcome_nodes o))
+IsNamed g find (tree.Promise source) = source < length g.script.sources
+IsNamed g find (tree.Stream stream) = stream < length g.script.streams
+IsNamed g find (tree.Action action) = IsActionAt g action
 
--- a value that is a made node of a kind
-abbrev pub MadeAs : List (List Made) → (MadeKind → Type 0) → Tree → Type 0
-MadeAs tables P (tree.Made n) = (m : Made) × (made_in tables n ≡ Some m) × P m.kind
-MadeAs tables P t = ⊥
+-- a value that is a node made of a kind
+abbrev pub MadeAs : (Name → Option Made) → (MadeKind → Type 0) → Tree → Type 0
+MadeAs find P (tree.Made n) = (m : Made) × (find n ≡ Some m) × P m.kind
+MadeAs find P t = ⊥
 
 abbrev pub IsArrayKind : MadeKind → Type 0
 IsArrayKind kind.Array = Unit {0}
@@ -209,18 +210,18 @@ IsKey (tree.Atom atom.Null) = Unit {0}
 IsKey (tree.Atom (atom.Text text)) = Unit {0}
 IsKey t = ⊥
 
-abbrev pub MadeWell : Ground → List (List Made) → MadeKind → List Tree → Type 0
-MadeWell g tables kind.Array slots = Unit {0}
-MadeWell g tables (kind.Object names) slots = Ascend names × (length slots ≡ length names)
-MadeWell g tables kind.Map slots = (entries : ℕ) × (length slots ≡ entries + entries)
-MadeWell g tables kind.Set slots = Unit {0}
-MadeWell g tables kind.Element slots = length slots ≡ 3
-MadeWell g tables (kind.Server number) slots = IsServerAt g number × ((key : Tree) × ((props : Tree) × (slots ≡ key ∷ props ∷ []) × IsKey key × MadeAs tables IsObjectKind props))
-MadeWell g tables kind.Promise slots = (array : Tree) × (slots ≡ array ∷ []) × MadeAs tables IsArrayKind array
-MadeWell g tables (kind.Bound action) slots = IsActionAt g action × ((promise : Tree) × (slots ≡ promise ∷ []) × MadeAs tables IsPromiseKind promise)
+abbrev pub MadeWell : Ground → (Name → Option Made) → MadeKind → List Tree → Type 0
+MadeWell g find kind.Array slots = Unit {0}
+MadeWell g find (kind.Object names) slots = Ascend names × (length slots ≡ length names)
+MadeWell g find kind.Map slots = (entries : ℕ) × (length slots ≡ entries + entries)
+MadeWell g find kind.Set slots = Unit {0}
+MadeWell g find kind.Element slots = length slots ≡ 3
+MadeWell g find (kind.Server number) slots = IsServerAt g number × ((key : Tree) × ((props : Tree) × (slots ≡ key ∷ props ∷ []) × IsKey key × MadeAs find IsObjectKind props))
+MadeWell g find kind.Promise slots = (array : Tree) × (slots ≡ array ∷ []) × MadeAs find IsArrayKind array
+MadeWell g find (kind.Bound action) slots = IsActionAt g action × ((promise : Tree) × (slots ≡ promise ∷ []) × MadeAs find IsPromiseKind promise)
 
 abbrev pub IsMade : Ground → List (List Made) → Made → Type 0
-IsMade g tables m = AllByRecursion (IsNamed g tables) m.slots × MadeWell g tables m.kind m.slots
+IsMade g tables m = AllByRecursion (IsNamed g (made_in tables)) m.slots × MadeWell g (made_in tables) m.kind m.slots
 
 abbrev pub TablesMade : Ground → List (List Made) → Type 0
 TablesMade g tables = AllByRecursion (AllByRecursion (IsMade g tables)) tables
@@ -233,18 +234,13 @@ pub record AreTables (g : Ground) (address : List ℕ) (tables : List (List Made
 -- a body's nodes are made well, and what it gives is named there
 pub record BodyMade (g : Ground) (tables : List (List Made)) (b : Run Tree) : Type 0 where
   pub nodes : AllByRecursion (IsMade g (tables ++ b.after.made ∷ [])) b.after.made
-  pub value : (t : Tree) → b.step ≡ gave t → IsNamed g (tables ++ b.after.made ∷ []) t
+  pub value : (t : Tree) → b.step ≡ gave t → IsNamed g (made_in (tables ++ b.after.made ∷ [])) t
 
 -- ---- what is there
 
 -- a value whose numbers are in range, and whose node made is there
 abbrev pub IsKnown : Ground → List Bool → Tree → Type 0
-IsKnown g settled (tree.Atom a) = IsValidAtom a
-IsKnown g settled (tree.Made n) = (m : Made) × (node_at g settled n ≡ Some m)
-IsKnown g settled (tree.FromSource source n) = (o : Outcome) × (slice_get (outcomes g) source ≡ Some o) × (n < length (outcome_nodes o))
-IsKnown g settled (tree.Promise source) = source < length g.script.sources
-IsKnown g settled (tree.Stream stream) = stream < length g.script.streams
-IsKnown g settled (tree.Action action) = IsActionAt g action
+IsKnown g settled t = IsNamed g (node_at g settled) t
 
 -- of a value that is reached: what it shows is there
 abbrev pub ShowsKnown : Ground → List Bool → Value → Type 0
@@ -267,7 +263,7 @@ IsWhat g address (what.Known slot) = (address ≡ []) × IsArgument g.root slot
 IsWhat g address (what.Item stream index) = (address ≡ []) × ((f : Flowing) × (slice_get g.script.streams stream ≡ Some f) × (index < length f.items))
 IsWhat g address (what.Last stream) = (address ≡ []) × (stream < length g.script.streams)
 
--- a job of a ground: its numbers are in range, and its element is one of its tables
+-- a job that belongs: its numbers are in range, and its element is one of its tables
 pub record Belongs (g : Ground) (job : Job) : Type 0 where
   pub is_what : IsWhat g job.address job.what
   pub seen : length job.seen.settled ≡ length g.script.sources

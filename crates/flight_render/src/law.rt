@@ -15,15 +15,18 @@ ghost use Rattle.flight_render.specs.Body.{body, root_body};
 ghost use Rattle.flight_render.specs.Bodies.{inner, element_of, next_body, body_at, node_at, tables_at, tables_for, TabledFor};
 ghost use Rattle.flight_render.specs.Jobs.{Job, element, Value, IsFinal, job_of, comes, value_of, Leads, IsTarget, Stands};
 ghost use Rattle.flight_render.specs.Plain.{NodeIs};
-ghost use Rattle.flight_render.specs.Costs.{In, Reached, Stops, Rendered, Total, TotalOver};
+ghost use Rattle.flight_render.specs.Costs.{In, Reached, Stops, Rendered, Total, TotalOver, IsOver};
+ghost use Rattle.flight_render.specs.declared.job.What.{What};
+ghost use Rattle.flight_render.specs.Attempt.{job_for, run_for, IsTabled};
 ghost use Rattle.flight_render.specs.Valid.{IsValidGround, MadeWell, AreTables, BodyMade, IsKnown, ShowsKnown};
 ghost use Rattle.flight_render.specs.Laws.{Grows, Stays, Own, LeadBack, TablesLeadBack, NamesBack, IsLasting};
 
 /// A body that finishes, or that waits for a source which still is not settled, is the same with more sources
-/// settled, nodes and costs included.
+/// settled, nodes and costs included. More settled sources never lower the cost of a body.
 pub fn larger_bodies()
     ensures component { (g : Ground) (few many : List Bool) → Grows few many → (tables : List (List Made)) (number : ℕ) (props : Tree) (address : List ℕ) → Stays many (body g few tables number props address).step → body g many tables number props address ≡ body g few tables number props address }
     ensures first { (g : Ground) (few many : List Bool) → Grows few many → Stays many (root_body g few).step → root_body g many ≡ root_body g few }
+    ensures cost { (g : Ground) (few many : List Bool) → Grows few many → (tables : List (List Made)) (number : ℕ) (props : Tree) (address : List ℕ) → (body g few tables number props address).after.cost ≤ (body g many tables number props address).after.cost }
 {}
 
 /// Rendering only gains with more sources settled.
@@ -41,6 +44,7 @@ pub fn larger_rendering()
     ensures stands { (g : Ground) → IsValidGround g → (few many : List Bool) → Grows few many → (v : Value) → Reached g few v → (t : Target Key) → Stands g few v t → (t ≡ target Pending → ⊥) → Stands g many v t }
     ensures stops { (g : Ground) (few many : List Bool) → Grows few many → (source : ℕ) → is_settled many source ≡ false → Stops g few source → Stops g many source }
     ensures total { (g : Ground) (few many : List Bool) → Grows few many → (less more : ℕ) → Total g few less → Total g many more → less ≤ more }
+    ensures over { (g : Ground) (few many : List Bool) → Grows few many → (fuel : ℕ) → IsOver g few fuel → IsOver g many fuel }
 {}
 
 /// A body names only its own lesser nodes, and nodes that were made at proper prefixes of its address before
@@ -52,10 +56,11 @@ pub fn names_lead_back()
 {}
 
 /// The body of a server element is that of its component, with the tables of what the bodies on the way to it
-/// made. What an attempt with these tables finds under fewer settled sources, its job comes to.
+/// made. What an attempt with these tables finds under fewer settled sources, its job comes to; so it is with a task of any kind.
 pub fn attempts()
     ensures same { (g : Ground) (settled : List Bool) (n : Name) → body_at g settled (inner n) ≡ next_body g settled (tables_for g settled n) (inner n) (element_of (node_at g settled n)) }
     ensures gives { (g : Ground) (few many : List Bool) → Grows few many → (n : Name) (tables : List (List Made)) (b : Run Tree) → TabledFor g many n tables → next_body g few tables (inner n) (element_of (node_at g many n)) ≡ Some b → Stays many b.step → comes g many (element n) ≡ Some b.step }
+    ensures task { (g : Ground) → IsValidGround g → (few many : List Bool) → Grows few many → (what : What) → IsTabled g many what → Stays many (run_for g few what).step → comes g many (job_for g what) ≡ Some (run_for g few what).step }
 {}
 
 /// A chain never comes back to a job, and ends. What is reached stands for one slot.
@@ -66,9 +71,10 @@ pub fn chains()
     ensures node { (g : Ground) (settled : List Bool) (k : Key) (shape other : Shape Value) → NodeIs g settled k shape → NodeIs g settled k other → shape ≡ other }
 {}
 
-/// A total is one number. Bodies whose costs exceed the fuel together take it over the fuel.
+/// A total is one number, and no less than any cost in it. Bodies whose costs exceed the fuel together take it over the fuel.
 pub fn totals()
     ensures one { (g : Ground) (settled : List Bool) (total other : ℕ) → Total g settled total → Total g settled other → total ≡ other }
+    ensures within { (g : Ground) (settled : List Bool) (total : ℕ) (address : List ℕ) (cost : ℕ) → Total g settled total → Rendered g settled address cost → cost ≤ total }
     ensures over { (g : Ground) (settled : List Bool) (total fuel : ℕ) → Total g settled total → TotalOver g settled fuel → fuel < total }
 {}
 
@@ -76,7 +82,7 @@ pub fn totals()
 /// a value leads to has its shape.
 pub fn made_well()
     ensures bodies { (g : Ground) → IsValidGround g → (settled : List Bool) (address : List ℕ) (b : Run Tree) → body_at g settled address ≡ Some b → BodyMade g (tables_at g settled address) b }
-    ensures nodes { (g : Ground) → IsValidGround g → (settled : List Bool) (n : Name) (m : Made) → node_at g settled n ≡ Some m → AllByRecursion (IsKnown g settled) m.slots × ((tables : List (List Made)) × MadeWell g tables m.kind m.slots) }
+    ensures nodes { (g : Ground) → IsValidGround g → (settled : List Bool) (n : Name) (m : Made) → node_at g settled n ≡ Some m → AllByRecursion (IsKnown g settled) m.slots × MadeWell g (node_at g settled) m.kind m.slots }
     ensures tables { (g : Ground) → IsValidGround g → (settled : List Bool) (n : Name) (tables : List (List Made)) → TabledFor g settled n tables → AreTables g (inner n) tables × (made_in tables n ≡ node_at g settled n) }
     ensures reached { (g : Ground) → IsValidGround g → (settled : List Bool) (v : Value) → Reached g settled v → ShowsKnown g settled v }
     ensures closed { (g : Ground) → IsValidGround g → (settled : List Bool) (v : Value) → Reached g settled v → job_of g settled v ≡ None → (k : Key) → IsTarget g settled v (node_at_key k) → (shape : Shape Value) × NodeIs g settled k shape }
@@ -91,5 +97,4 @@ pub fn charges()
 pub fn waits_right()
     ensures rendered { (g : Ground) (settled : List Bool) (address : List ℕ) (b : Run Tree) (source : ℕ) → body_at g settled address ≡ Some b → b.step ≡ waits source → (is_settled settled source ≡ false) × (source < length g.script.sources) }
     ensures component { (g : Ground) (settled : List Bool) (tables : List (List Made)) (number : ℕ) (props : Tree) (address : List ℕ) (source : ℕ) → (body g settled tables number props address).step ≡ waits source → (is_settled settled source ≡ false) × (source < length g.script.sources) }
-{
-}
+{}

@@ -1,13 +1,13 @@
 -- Names that ascend, and where one stands.
-use Rattle.std.proofs.Common.{◌≡◌, ◌≢◌, ℕ, zero, suc, ◌+◌, ◌<◌, ◌≤◌, List, [], ◌∷◌, ◌++◌, length, map, refl, sym, ◌∙◌, ap, subst, arith, inl, inr, Option, Some, None, String, Global, Bor, Ordering, Less, Equal, Greater, nat_cmp, string_cmp, slice_index_or, true, false, Bool, string_bytes}
-use Rattle.std.specs.Prelude.{◌||◌, slice_get}
+use Rattle.std.proofs.Common.{◌≡◌, ◌≢◌, ℕ, zero, suc, ◌<◌, ◌≤◌, List, [], ◌∷◌, length, map, refl, sym, ◌∙◌, ap, arith, inl, inr, Some, String, Global, Bor, Ordering, Less, Equal, Greater, nat_cmp, string_cmp, slice_index_or, true, false, Bool, string_bytes}
+use Rattle.std.specs.Prelude.{slice_get}
 use Rattle.std.specs.Ordering.{ordering_index, is_eq}
 use Rattle.std.specs.Cmp.Lexicographic.{slice_cmp}
 use Rattle.std.specs.Map.{keys_of}
 use Rattle.std.specs.List.{AllByRecursion, HoldsAt}
 use Rattle.std.specs.List.Sorted.{IsStrictlySortedBy, IsNonDecreasingBy, IsPartitionPoint}
 use Rattle.std.specs.Str.{bytes_eq}
-use Rattle.std.proofs.lemmas.Bool.{false≢true, or_left, or_right, cases_lt}
+use Rattle.std.proofs.lemmas.Bool.{or_left, or_right, cases_lt}
 use Rattle.std.proofs.lemmas.Cmp.{nat_list_cmp_total, tied_itself}
 use Rattle.std.proofs.lemmas.Map.Text.{is_eq-slice_cmp}
 use Rattle.std.proofs.lemmas.Slice.Eq.{bytes_eq-Decides}
@@ -84,9 +84,9 @@ none_among (n ∷ ns) x h = rw (other n.now x (bytes_eq n.now x) refl (h zero n 
 apart_at : (ns : List (Bor (List ℕ))) (x : List ℕ) (i : ℕ) → IsPartitionPoint (λ y. slice_cmp nat_cmp y.now x ≡ Less) (λ y. slice_cmp nat_cmp y.now x ≡ Greater) ns i
     → (k : ℕ) (d : Bor (List ℕ)) → k < length ns → slice_cmp nat_cmp (slice_index_or ns k d).now x ≢ Equal
 apart_at ns x i h k d within same = elim (cases_lt k i) [
-    | inl before ↦ less≢equal (sym (h.0 k d (omega arith) before) ∙ same)
-    | inr behind ↦ less≢equal (greater_is (sym (h.1 k d (omega arith) within) ∙ same))
-  ]
+  | inl before ↦ less≢equal (sym (h.0 k d (omega arith) before) ∙ same)
+  | inr behind ↦ less≢equal (greater_is (sym (h.1 k d (omega arith) within) ∙ same))
+]
 
 pub not_found : (ns : List (Bor (List ℕ))) (x : List ℕ) (i : ℕ) → Ascend (map (λ n. n.now) ns)
     → (IsNonDecreasingBy (λ y. ordering_index (slice_cmp nat_cmp y.now x)) ns → IsPartitionPoint (λ y. slice_cmp nat_cmp y.now x ≡ Less) (λ y. slice_cmp nat_cmp y.now x ≡ Greater) ns i) → is_among (map (λ n. n.now) ns) x ≡ false

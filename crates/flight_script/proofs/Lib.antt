@@ -7,3 +7,7 @@ pub mod Finding
 pub mod Settling
 pub mod Naming
 pub mod Assembling
+pub mod Seeing
+pub mod Once
+pub mod Valid
+pub mod Formed

@@ -1,5 +1,5 @@
 -- Values that are no node.
-use Rattle.std.proofs.Common.{◌≡◌, ◌≢◌, ℕ, suc, ◌+◌, List, [], ◌∷◌, length, map, refl, sym, ◌∙◌, ap, subst, arith, Option, Some, None, Err, Ordering, Less, Equal, Greater, nat_cmp, true, false, Bool}
+use Rattle.std.proofs.Common.{◌≡◌, ◌≢◌, ℕ, suc, List, [], ◌∷◌, length, map, refl, sym, ◌∙◌, subst, arith, Option, Some, None, Err, Ordering, Less, Equal, Greater, nat_cmp, true, false, Bool}
 use Rattle.std.specs.Prelude.{codes, option_and_then, if◌then◌else◌, ◌==◌}
 use Rattle.std.specs.List.{AllZip}
 use Rattle.std.specs.Cmp.Lexicographic.{slice_cmp}
@@ -8,7 +8,7 @@ use Rattle.std.proofs.lemmas.Map.Text.{is_eq-slice_cmp}
 use Rattle.std.specs.Str.{bytes_eq}
 use Rattle.std.proofs.lemmas.Slice.Eq.{bytes_eq-Decides}
 use Rattle.std.proofs.lemmas.Bool.{false≢true, eqb-true}
-use Rattle.serde_json.specs.Data.{Data, null, boolean, number, string, array, object, Members, no_members, member}
+use Rattle.serde_json.specs.Data.{Data, null, boolean, number, string, array, object, no_members, member}
 use Rattle.serde_json.specs.Find.{get}
 use Rattle.serde_json.specs.View.{view}
 use Rattle.serde_json.specs.declared.value.Value.{Value}
@@ -68,7 +68,7 @@ then_some : {A B : Type 0} (f : A → Option B) (o : Option A) (y : B) → optio
 then_some f None y h = absurd (some≢none y (sym h))
 then_some f (Some x) y h = (x, refl)
 
-each_some : {A B : Type 0} (R : A → B → Type 0) (o : Option (List A)) (ys : List B) → Each R o ys → (xs : List A) × (o ≡ Some xs)
+pub each_some : {A B : Type 0} (R : A → B → Type 0) (o : Option (List A)) (ys : List B) → Each R o ys → (xs : List A) × (o ≡ Some xs)
 each_some R None ys h = absurd h
 each_some R (Some xs) ys h = (xs, refl)
 
@@ -81,7 +81,7 @@ apart f g d a b x y differ h k =
 
 -- ---- nodes
 
-apart_each : {A B C : Type 0} (f : Data → Option A) (g : Data → Option (List B)) (R : B → C → Type 0) (d : Data) (a b : List ℕ) (x : A) (ys : List C) → bytes_eq a b ≡ false → Some x ≡ option_and_then f (only a d) → Each R (option_and_then g (only b d)) ys → ⊥
+pub apart_each : {A B C : Type 0} (f : Data → Option A) (g : Data → Option (List B)) (R : B → C → Type 0) (d : Data) (a b : List ℕ) (x : A) (ys : List C) → bytes_eq a b ≡ false → Some x ≡ option_and_then f (only a d) → Each R (option_and_then g (only b d)) ys → ⊥
 apart_each f g R d a b x ys differ h k =
     let found = each_some R (option_and_then g (only b d)) ys k in
     apart f g d a b x found.0 differ (sym h) found.1
@@ -144,4 +144,3 @@ set_none count d xs is none (node.Action i b) h = h
 pub set_unfit : (count : ℕ) (d : Data) (xs : List Data) (e : Unfit) → Some xs ≡ list_in (codes "set") d → Answers (AllZip (IsSlot count) xs) (Err e) → Answers (IsNode count d) (Err e)
 set_unfit count d xs Form is none = set_none count d xs is none
 set_unfit count d xs Memory is none = tt
-

@@ -1,5 +1,5 @@
 -- Tests one after another.
-use Rattle.std.proofs.Common.{◌≡◌, List, [], ◌∷◌, ◌++◌, refl, sym, ◌∙◌, ap, subst, append_assoc, append-nil, inl, inr}
+use Rattle.std.proofs.Common.{◌≡◌, List, [], ◌∷◌, ◌++◌, refl, sym, ◌∙◌, subst, append_assoc, append-nil, inl, inr}
 use Rattle.std.specs.Prelude.{Result, Ok, Err, OnOk}
 use Rattle.flight_script.specs.declared.fault.ScriptFault.{ScriptFault}
 use Rattle.flight_script.specs.Tests.{Test, AllPass, IsFirstFault, Refuses}

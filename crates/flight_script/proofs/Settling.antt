@@ -1,18 +1,18 @@
 -- The sources that are settled so far.
-use Rattle.std.proofs.Common.{◌≡◌, ◌≢◌, ℕ, zero, suc, ◌+◌, ◌<◌, List, [], ◌∷◌, ◌++◌, length, drop, map, refl, sym, ◌∙◌, ap, subst, arith, append_assoc, append-nil, Option, Some, None, Ordering, Less, Equal, nat_cmp, true, false, Bool, slice_set, Bor}
+use Rattle.std.proofs.Common.{◌≡◌, ◌≢◌, ℕ, zero, suc, ◌+◌, ◌<◌, List, [], ◌∷◌, ◌++◌, length, drop, map, refl, sym, ◌∙◌, ap, subst, arith, append_assoc, append-nil, Some, Less, nat_cmp, true, false, Bool, slice_set, Bor}
 use Rattle.std.proofs.lemmas.List.{drop_more}
 use Rattle.std.specs.Prelude.{◌||◌, slice_get}
 use Rattle.std.specs.Cmp.Lexicographic.{slice_cmp}
-use Rattle.std.specs.List.{AllByRecursion, flat_map}
+use Rattle.std.specs.List.{AllByRecursion}
 use Rattle.std.specs.List.Sorted.{IsStrictlySortedBy}
 use Rattle.std.specs.Str.{bytes_eq}
 use Rattle.std.proofs.lemmas.Slice.Eq.{bytes_eq-Decides}
 use Rattle.std.proofs.lemmas.Bool.{or_right}
 use Rattle.serde_json.specs.Data.{Data}
 use Rattle.flight_value.specs.Graph.{Ascend}
-use Rattle.flight_script.specs.Json.{is_among, text, list_of}
+use Rattle.flight_script.specs.Json.{is_among, text}
 use Rattle.flight_script.specs.Settlers.{marks, settle_tests, settled_tests}
-use Rattle.flight_script.specs.Tests.{Test, AllPass, Refuses}
+use Rattle.flight_script.specs.Tests.{AllPass, Refuses}
 use Rattle.flight_script.specs.declared.fault.ScriptFault.{ScriptFault}
 use Rattle.flight_script.proofs.Marks.{some≢none}
 use Rattle.flight_script.proofs.Finding.{equal_from_same, less≢equal, some_same}
@@ -32,10 +32,10 @@ among_other : (xs : List (List ℕ)) (x n : List ℕ) → x ≢ n → is_among (
 among_other [] x n h = rw (not_same x n (bytes_eq x n) refl h) refl
 among_other (y ∷ xs) x n h = ap (λ b. bytes_eq y n || b) (among_other xs x n h)
 
-apart : (a b : List ℕ) → slice_cmp nat_cmp a b ≡ Less → a ≢ b
+pub apart : (a b : List ℕ) → slice_cmp nat_cmp a b ≡ Less → a ≢ b
 apart a b less same = less≢equal (sym less ∙ equal_from_same a b same)
 
-below_get : (n : List ℕ) (ns : List (List ℕ)) (i : ℕ) (x : List ℕ) → AllByRecursion (λ y. slice_cmp nat_cmp n y ≡ Less) ns → slice_get ns i ≡ Some x → slice_cmp nat_cmp n x ≡ Less
+pub below_get : (n : List ℕ) (ns : List (List ℕ)) (i : ℕ) (x : List ℕ) → AllByRecursion (λ y. slice_cmp nat_cmp n y ≡ Less) ns → slice_get ns i ≡ Some x → slice_cmp nat_cmp n x ≡ Less
 below_get n [] i x h e = absurd (some≢none x (sym e))
 below_get n (m ∷ ns) zero x h e = subst (λ y. slice_cmp nat_cmp n y ≡ Less) (some_same m x e) h.0
 below_get n (m ∷ ns) (suc i) x h e = below_get n ns i x h.1 e
@@ -116,7 +116,7 @@ settlers_on sources earlier all ds rest settled new s pass mark =
       are_marks = mark s.now s.are_marks;
       split = append_assoc s.now (map text ds) (map text rest) ∙ (ap (λ ts. s.now ++ ts) (sym (map-append ds rest)) ∙ s.split);
       passed = passed_on (settled_tests sources earlier all) (settled_tests sources s.now ds) (settled_tests sources (s.now ++ map text ds) rest)
-      (subst (Passed (settled_tests sources earlier all)) (tests-append sources s.now ds rest) s.passed) (pass s.now s.are_marks);
+          (subst (Passed (settled_tests sources earlier all)) (tests-append sources s.now ds rest) s.passed) (pass s.now s.are_marks);
     }
 
 pub settlers_refuse : (sources earlier : List (List ℕ)) (all ds rest : List Data) (settled : List Bool) (e : ScriptFault)

@@ -1,14 +1,13 @@
 -- JSON as lists beside the values that it is kept in.
-use Rattle.std.proofs.Common.{◌≡◌, ℕ, List, [], ◌∷◌, length, map, refl, sym, ◌∙◌, ap, Option, Some, None, option_map, String, Vec, Global, BTreeMap, Bor, Bool}
+use Rattle.std.proofs.Common.{◌≡◌, ℕ, List, [], ◌∷◌, map, refl, sym, ◌∙◌, ap, Some, String, Vec, Global, BTreeMap, Bor, Bool}
 use Rattle.std.specs.Prelude.{◌||◌}
 use Rattle.std.specs.List.{list_all, list_any}
 use Rattle.std.specs.Str.{bytes_eq}
 use Rattle.std.proofs.lemmas.List.Folds.{list_all-map}
-use Rattle.serde_json.specs.Data.{Data, null, boolean, number, string, array, object}
 use Rattle.serde_json.specs.View.{view, items_view, members_view}
 use Rattle.serde_json.specs.declared.value.Value.{Value, Array, Object}
 use Rattle.serde_json.proofs.Views.{view-Array, view-Object}
-use Rattle.flight_script.specs.Json.{Member, items, members, as_list, as_members, is_among}
+use Rattle.flight_script.specs.Json.{items, members, as_list, as_members, is_among}
 use Rattle.flight_script.specs.Entries.{entry, entries}
 
 pub items-view : (vs : List Value) → items (items_view vs) ≡ map view vs

@@ -8,3 +8,4 @@ pub mod Tests
 pub mod Script
 pub mod Entries
 pub mod Answer
+pub mod Counts

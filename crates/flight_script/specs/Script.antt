@@ -5,6 +5,7 @@ use Rattle.std.specs.List.{AllZip, list_all, flat_map}
 use Rattle.serde_json.specs.Data.{Data}
 use Rattle.serde_json.specs.Read.{read}
 use Rattle.serde_json.specs.Find.{get, as_number, as_u64}
+use Rattle.flight_value.specs.Graph.{Ascend}
 use Rattle.flight_syntax.specs.declared.program.Declared.{Declared}
 use Rattle.flight_syntax.specs.declared.script.Script.{Script}
 use Rattle.flight_syntax.specs.Names.{is_plain_name}
@@ -69,8 +70,10 @@ tests (Some d) declared = script_tests d declared
 
 -- ---- the script, and the first fault
 
--- the JSON is the script
+-- the JSON is the script; the members of an object ascend by their names
 pub record IsScript (d : Data) (script : Script) : Type 0 where
+  pub sources_ascend : Ascend (names (sources_in d))
+  pub streams_ascend : Ascend (names (streams_in d))
   pub sources : AllZip IsSource (sources_in d) script.sources
   pub streams : AllZip (IsStream (names (sources_in d))) (streams_in d) script.streams
   pub settlers : AllZip (AreSettled (names (sources_in d))) (list_at (codes "settlers") d) script.settlers

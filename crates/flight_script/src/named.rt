@@ -52,12 +52,7 @@ fn check_declared(
 /// Asks it of an expression.
 #[cycle(check)]
 #[tactic(auto, using(crate::proofs::Naming::both_pass, crate::proofs::Naming::first_refuses, crate::proofs::Naming::second_refuses))]
-fn check(
-    alloc: Global,
-    expr: &Expr,
-    sources: &[&str],
-    streams: &[&str],
-) -> Result<(), ScriptFault>
+fn check(alloc: Global, expr: &Expr, sources: &[&str], streams: &[&str]) -> Result<(), ScriptFault>
     requires sources { Ascend (map (λ n. n.now) sources.now) }
     requires streams { Ascend (map (λ n. n.now) streams.now) }
     ensures pass { OnOk result (AllPass (named_tests (map (λ n. n.now) sources.now) (map (λ n. n.now) streams.now) (names_in (term expr.now)))) }
@@ -101,7 +96,9 @@ fn check(
             check(alloc, right.get(), sources, streams)
         }
         Expr::Element {
-            attrs, children, ..
+            attrs,
+            children,
+            ..
         } => {
             check_props(alloc, attrs.as_slice(), sources, streams)?;
             check_items(alloc, children.as_slice(), sources, streams)

@@ -47,11 +47,7 @@ fn members_in<'a>(value: &'a Value, name: &str) -> Option<&'a Map<String, Value>
 }
 
 /// The properties that members are.
-fn read_props(
-    alloc: Global,
-    members: &Map<String, Value>,
-    count: u32,
-) -> Result<List<Prop>, Unfit>
+fn read_props(alloc: Global, members: &Map<String, Value>, count: u32) -> Result<List<Prop>, Unfit>
     ensures { Answers (AllZip (IsProp count) (entries members.now.entries)) result }
 {
     let mut props = Vec::with_capacity(alloc, members.len())?;

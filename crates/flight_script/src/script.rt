@@ -2,12 +2,14 @@ ghost use Rattle.std.specs.Prelude.{◌≡◌, ◌⊎◌, [], Some, None, IsUtf8
 ghost use Rattle.std.specs.List.{list_all};
 ghost use Rattle.serde_json.specs.Read.{read};
 ghost use Rattle.serde_json.specs.View.{view};
+ghost use Rattle.flight_syntax.specs.Form.{HasForm};
 ghost use Rattle.flight_syntax.specs.Names.{is_plain_name};
 ghost use Rattle.flight_script.specs.Entries.{entries};
 ghost use Rattle.flight_script.specs.Script.{is_version, are_named, has_sources, may_have_streams, is_script, members_at, script_tests, tests, IsScript, IsScriptOf};
 ghost use Rattle.flight_script.specs.Tests.{AllPass, Refuses};
 ghost use Rattle.flight_script.specs.declared.fault.ScriptFault.TheVariants as ScriptFault;
 
+use crate::count::script_fits;
 use crate::fault::ScriptFault;
 use crate::look::{as_members, has_only};
 use crate::named::check_program;
@@ -26,10 +28,16 @@ use std::str;
 pub fn read_script(alloc: Global, bytes: &[u8], program: &Program) -> Result<Script, ScriptFault>
     requires { IsUtf8 bytes.now }
     ensures is { IfOk result (IsScriptOf bytes.now program.now.declared) }
+    ensures form { IfOk result HasForm }
     ensures err { IfErr result (Refuses (tests (read bytes.now) program.now.declared)) }
 {
     let script = parsed(alloc, utf8(bytes))?;
-    script_of(alloc, &script, program.declared.as_slice())
+    let script = script_of(alloc, &script, program.declared.as_slice())?;
+    if script_fits(&script) {
+        Ok(script)
+    } else {
+        Err(ScriptFault::Memory)
+    }
 }
 
 /// Bytes that are a text.

@@ -101,12 +101,7 @@ fn read_graph(
 }
 
 /// The slot of a source's value.
-fn source_slot(
-    alloc: Global,
-    name: &str,
-    value: &Value,
-    count: u32,
-) -> Result<Slot, ScriptFault>
+fn source_slot(alloc: Global, name: &str, value: &Value, count: u32) -> Result<Slot, ScriptFault>
     ensures pass { OnOk result (AllPass (holds (has_whole_numbers (view value.now)) (fault.Number name.now) ∷ a_slot count (view value.now) (fault.BadNode name.now None) ∷ [])) }
     ensures is { IfOk result (IsSlot count (view value.now)) }
     ensures err { IfErr result (Refuses (holds (has_whole_numbers (view value.now)) (fault.Number name.now) ∷ a_slot count (view value.now) (fault.BadNode name.now None) ∷ [])) }

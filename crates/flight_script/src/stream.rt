@@ -123,11 +123,7 @@ fn flow_of(kind: &str) -> Option<Flow>
 }
 
 /// The numbers of the sources that items name.
-fn source_numbers(
-    alloc: Global,
-    sources: &[&str],
-    items: &[Value],
-) -> Result<Vec<u32>, ScriptFault>
+fn source_numbers(alloc: Global, sources: &[&str], items: &[Value]) -> Result<Vec<u32>, ScriptFault>
     requires { Ascend (map (λ n. n.now) sources.now) }
     ensures pass { OnOk result (AllPass (map (name_test (map (λ n. n.now) sources.now)) (map view items.now))) }
     ensures are { IfOk result (λ out. AllZip (IsNumberOf (map (λ n. n.now) sources.now)) (map view items.now) out.items) }
@@ -141,11 +137,7 @@ fn source_numbers(
 }
 
 /// The number of the source that the final value of a stream names.
-fn last_number(
-    alloc: Global,
-    sources: &[&str],
-    stream: &Value,
-) -> Result<Option<u32>, ScriptFault>
+fn last_number(alloc: Global, sources: &[&str], stream: &Value) -> Result<Option<u32>, ScriptFault>
     requires { Ascend (map (λ n. n.now) sources.now) }
     ensures pass { OnOk result (AllPass (map (name_test (map (λ n. n.now) sources.now)) (option_to_list (get (codes "final") (view stream.now))))) }
     ensures is { IfOk result (IsLast (map (λ n. n.now) sources.now) (get (codes "final") (view stream.now))) }

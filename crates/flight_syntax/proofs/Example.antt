@@ -1,15 +1,15 @@
 -- The words and the meaning of `server App(x) = [x, 1];`.
-use Rattle.std.proofs.Common.{◌≡◌, ℕ, zero, suc, ◌<◌, List, [], ◌∷◌, refl, arith, pos, Some, map}
+use Rattle.std.proofs.Common.{◌≡◌, ℕ, zero, suc, ◌<◌, List, [], ◌∷◌, refl, arith, pos, Some}
 use Rattle.std.specs.Prelude.{codes, slice_get}
 use Rattle.flight_value.specs.declared.graph.Atom.TheVariants as value
 use Rattle.flight_syntax.specs.declared.token.TokenKind.TheVariants as kind
-use Rattle.flight_syntax.specs.declared.token.TokenKind.{TokenKind}
 use Rattle.flight_syntax.specs.declared.word.Keyword.TheVariants.{Server}
 use Rattle.flight_syntax.specs.declared.word.Punctuator.TheVariants as signs
-use Rattle.flight_syntax.specs.Lexicon.{Word, Placed, key, lower, upper, number, mark, word_as}
+use Rattle.flight_syntax.specs.Lexicon.{Placed, key, lower, upper, number, mark, word_as}
 use Rattle.flight_syntax.specs.Tree as tree
 use Rattle.flight_syntax.specs.Term as term
 use Rattle.flight_syntax.specs.Scope.{Means}
+use Rattle.flight_syntax.specs.Faults.{unknown, twice, key_on_server, program_faults, first_fault}
 
 abbrev placed : List ℕ → ℕ → Placed
 placed bytes at = record { bytes = bytes; at = at }
@@ -42,3 +42,13 @@ none_later (suc later) l e = cc
 -- the body means the array of the parameter and 1
 pub means : Means program (codes "x" ∷ []) body (term.array (term.term_and (term.variable 0) (term.term_and (term.atom (value.Whole (pos 1))) term.no_terms)))
 means = (record { here = refl; innermost = none_later }, (refl, tt))
+
+-- the faults of `server App(x, x) = <App key={y}/>;`: a parameter twice, a name that is unknown, a key on a server component
+abbrev faulty : List tree.Declaration
+faulty = tree.server (placed (codes "App") 7) (placed (codes "x") 11 ∷ placed (codes "x") 14 ∷ []) (tree.element (placed (codes "App") 20) (tree.prop_and (placed (codes "key") 24) (tree.variable (placed (codes "y") 29)) tree.no_props) tree.no_trees) ∷ []
+
+pub its_faults : program_faults faulty ≡ twice (placed (codes "x") 14) ∷ key_on_server (placed (codes "key") 24) ∷ unknown (placed (codes "y") 29) ∷ []
+its_faults = refl
+
+pub its_first : first_fault (program_faults faulty) ≡ Some (twice (placed (codes "x") 14))
+its_first = refl

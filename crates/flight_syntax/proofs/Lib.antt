@@ -11,3 +11,9 @@ pub mod Example
 pub mod Spellings
 pub mod Terms
 pub mod Meanings
+pub mod FirstFaults
+pub mod Known
+pub mod Whole
+pub mod Bodies
+pub mod Dates
+pub mod RealWords

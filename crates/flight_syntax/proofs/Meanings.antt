@@ -1,48 +1,34 @@
 -- A tree means one term.
-use Rattle.std.proofs.Common.{◌≡◌, ℕ, zero, suc, ◌<◌, ◌==◌, Bool, true, false, List, [], ◌∷◌, ◌++◌, map, Option, Some, None, refl, sym, ap, subst, ◌∙◌, arith, if◌then◌else◌}
-use Rattle.std.specs.Prelude.{slice_get, unwrap_or}
-use Rattle.std.specs.List.{list_any, AllZip}
+use Rattle.std.proofs.Common.{◌≡◌, ℕ, zero, suc, Bool, true, false, List, [], ◌∷◌, ◌++◌, Some, refl, sym, ap, subst, ◌∙◌, arith, if◌then◌else◌}
+use Rattle.std.specs.Prelude.{slice_get}
+use Rattle.std.specs.List.{AllZip}
 use Rattle.std.specs.Str.{bytes_eq}
-use Rattle.std.proofs.lemmas.Bool.{false≢true}
 use Rattle.std.proofs.lemmas.Slice.Eq.{bytes_eq-Decides}
-use Rattle.serde_json.specs.Data.{Data}
-use Rattle.serde_json.specs.Read.{of_json}
 use Rattle.serde_json.specs.Written.{compact_text}
-use Rattle.flight_syntax.specs.declared.expr.Tag.{Tag}
-use Rattle.flight_syntax.specs.declared.expr.Tag.TheVariants.{Suspense}
-use Rattle.flight_syntax.specs.Lexicon.{Placed}
 use Rattle.flight_syntax.specs.Tree as tree
 use Rattle.flight_syntax.specs.Tree.{Tree, Trees, TreeProps, TreePairs, Declaration}
 use Rattle.flight_syntax.specs.Term as term
 use Rattle.flight_syntax.specs.Term.{Term, Terms, Props, Pairs}
-use Rattle.flight_syntax.specs.Scope.{IsInnermost, client_number, action_number, tag_of, Means, MeansEach, MeansProps, MeansPairs}
-use Rattle.flight_syntax.specs.Derives.{Said, server, client, action, bytes_of, SaidAs}
+use Rattle.flight_syntax.specs.Meaning.{occurs, innermost, given, given_tag, meaning, meanings, meaning_props, meaning_pairs}
+use Rattle.flight_syntax.specs.Scope.{IsInnermost, action_number, tag_of, Means, MeansEach, MeansProps, MeansPairs}
+use Rattle.flight_syntax.specs.Derives.{Said, server, client, action, SaidAs}
 
 -- ---- variables
 
 some_is : {A : Type 0} (a b : A) → Some a ≡ Some b → a ≡ b
 some_is a b e = cc
 
-abbrev occurs : List ℕ → List (List ℕ) → Bool
-occurs named [] = false
-occurs named (n ∷ scope) = if bytes_eq n named then true else occurs named scope
-
--- the number of the innermost variable
-abbrev innermost : List (List ℕ) → List ℕ → ℕ
-innermost [] named = zero
-innermost (n ∷ scope) named = if occurs named scope then suc (innermost scope named) else zero
-
-bytes_is : (a b : List ℕ) → bytes_eq a b ≡ true → a ≡ b
+pub bytes_is : (a b : List ℕ) → bytes_eq a b ≡ true → a ≡ b
 bytes_is a b e = grind (arith, bytes_eq-Decides)
 
-bytes_same : (a b : List ℕ) → a ≡ b → bytes_eq a b ≡ true
+pub bytes_same : (a b : List ℕ) → a ≡ b → bytes_eq a b ≡ true
 bytes_same a b e = grind (arith, bytes_eq-Decides)
 
 either_true : (b c : Bool) → c ≡ true → (if b then true else c) ≡ true
 either_true true c e = refl
 either_true false c e = e
 
-occurs_at : (named : List ℕ) (scope : List (List ℕ)) (k : ℕ) → slice_get scope k ≡ Some named → occurs named scope ≡ true
+pub occurs_at : (named : List ℕ) (scope : List (List ℕ)) (k : ℕ) → slice_get scope k ≡ Some named → occurs named scope ≡ true
 occurs_at named [] k e = absurd cc
 occurs_at named (n ∷ scope) zero e = rw (bytes_same n named (some_is n named e)) refl
 occurs_at named (n ∷ scope) (suc k) e = either_true (bytes_eq n named) (occurs named scope) (occurs_at named scope k e)
@@ -66,52 +52,6 @@ innermost_is (n ∷ scope) named (suc k) h =
     rw (occurs_at named scope k h.here) (ap suc (innermost_is scope named k (record { here = h.here; innermost = λ later l. h.innermost (suc later) (omega (arith, l)) })))
 
 -- ---- terms
-
-abbrev given : Option ℕ → ℕ
-given (Some n) = n
-given None = 0
-
-abbrev given_tag : Option Tag → Tag
-given_tag (Some t) = t
-given_tag None = Suspense
-
-abbrev mutual
-  meaning : List Declaration → List (List ℕ) → Tree → Term
-  meaning all scope (tree.let_in named bound rest) = term.let_in named.bytes (meaning all scope bound) (meaning all (scope ++ named.bytes ∷ []) rest)
-  meaning all scope (tree.if_else test yes_one other) = term.if_else (meaning all scope test) (meaning all scope yes_one) (meaning all scope other)
-  meaning all scope (tree.for_in named over give) = term.for_in named.bytes (meaning all scope over) (meaning all (scope ++ named.bytes ∷ []) give)
-  meaning all scope (tree.throw thrown) = term.throw (meaning all scope thrown)
-  meaning all scope (tree.member of named) = term.member (meaning all scope of) named.bytes
-  meaning all scope (tree.index of at) = term.index (meaning all scope of) (meaning all scope at)
-  meaning all scope (tree.atom value) = term.atom value
-  meaning all scope (tree.variable named) = term.variable (innermost scope named.bytes)
-  meaning all scope (tree.client named) = term.client (given (client_number all named.bytes))
-  meaning all scope (tree.array items) = term.array (meanings all scope items)
-  meaning all scope (tree.object props) = term.object (meaning_props all scope props)
-  meaning all scope (tree.map pairs) = term.map (meaning_pairs all scope pairs)
-  meaning all scope (tree.set items) = term.set (meanings all scope items)
-  meaning all scope (tree.source named) = term.source named.bytes
-  meaning all scope (tree.promise named) = term.promise named.bytes
-  meaning all scope (tree.stream named) = term.stream named.bytes
-  meaning all scope (tree.action named) = term.action (given (action_number all named.bytes))
-  meaning all scope (tree.action_with named bound) = term.action_with (given (action_number all named.bytes)) (meanings all scope bound)
-  meaning all scope (tree.paren inside) = term.paren (meaning all scope inside)
-  meaning all scope (tree.binary op left right) = term.binary op (meaning all scope left) (meaning all scope right)
-  meaning all scope (tree.element named attrs children) = term.element (given_tag (tag_of all named.bytes)) (meaning_props all scope attrs) (meanings all scope children)
-  meaning all scope tree.too_deep = term.variable 0
-  meaning all scope (tree.too_many of) = term.variable 0
-
-  meanings : List Declaration → List (List ℕ) → Trees → Terms
-  meanings all scope tree.no_trees = term.no_terms
-  meanings all scope (tree.tree_and first rest) = term.term_and (meaning all scope first) (meanings all scope rest)
-
-  meaning_props : List Declaration → List (List ℕ) → TreeProps → Props
-  meaning_props all scope tree.no_props = term.no_props
-  meaning_props all scope (tree.prop_and named value rest) = term.prop_and named.bytes (meaning all scope value) (meaning_props all scope rest)
-
-  meaning_pairs : List Declaration → List (List ℕ) → TreePairs → Pairs
-  meaning_pairs all scope tree.no_pairs = term.no_pairs
-  meaning_pairs all scope (tree.pair_and key value rest) = term.pair_and (meaning all scope key) (meaning all scope value) (meaning_pairs all scope rest)
 
 mutual
   means_is : (all : List Declaration) (scope : List (List ℕ)) (t : Tree) (u : Term) → Means all scope t u → u ≡ meaning all scope t

@@ -1,5 +1,5 @@
 -- The faults of a program's names: a name that is unknown, a name that comes twice, a key on a server component.
-use Rattle.std.specs.Prelude.{ℕ, ◌||◌, Bool, true, false, if◌then◌else◌, List, [], ◌∷◌, ◌++◌, codes, nat_lt, Option, Some, None}
+use Rattle.std.specs.Prelude.{ℕ, ◌||◌, Bool, if◌then◌else◌, List, [], ◌∷◌, ◌++◌, codes, nat_lt, Option, Some, None}
 use Rattle.std.specs.List.{list_any}
 use Rattle.std.specs.Str.{bytes_eq}
 use Rattle.flight_syntax.specs.Names.{is_lower}
@@ -159,3 +159,8 @@ earlier fault (Some other) = if nat_lt (place other) (place fault) then Some oth
 abbrev pub first_fault : List NameFault → Option NameFault
 first_fault [] = None
 first_fault (fault ∷ others) = earlier fault (first_fault others)
+
+-- of the first faults of two parts, the one that stands first
+abbrev pub first_of : Option NameFault → Option NameFault → Option NameFault
+first_of None other = other
+first_of (Some fault) other = earlier fault other

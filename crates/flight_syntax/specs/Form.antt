@@ -1,6 +1,6 @@
 -- The form of scripts, and the sources that are scripted.
-use Rattle.std.specs.Prelude.{ℕ, ◌^◌, ◌<◌, ◌≤◌, ◌≡◌, List, map, length, All, Contains, nat_eq}
-use Rattle.std.specs.List.{flat_map, IsDistinct}
+use Rattle.std.specs.Prelude.{ℕ, ◌^◌, ◌<◌, ◌≤◌, ◌==◌, Bool, List, map, length, All, nat_eq}
+use Rattle.std.specs.List.{flat_map, list_any, IsDistinct}
 use Rattle.std.specs.Option.{ForSome}
 use Rattle.flight_value.specs.Graph.{Ascend, IsValid}
 use Rattle.flight_syntax.specs.declared.script.Outcome.{Outcome}
@@ -35,6 +35,6 @@ pub record HasForm (script : Script) : Type 0 where
   pub settled : All (λ n. n < length script.sources) (settled_by script)
   pub once : IsDistinct nat_eq (settled_by script)
 
--- some settler settles the source
-abbrev pub IsScripted : Script → ℕ → Type 0
-IsScripted script source = Contains (settled_by script) source
+-- whether some settler settles the source
+abbrev pub is_scripted : Script → ℕ → Bool
+is_scripted script source = list_any (λ own. list_any (λ n. n == source) own) script.settlers

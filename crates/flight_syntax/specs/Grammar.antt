@@ -1,5 +1,5 @@
 -- The productions: which words spell a tree. The number of a phrase is how many levels of nesting are left.
-use Rattle.std.specs.Prelude.{ℕ, zero, suc, ◌≡◌, ◌<◌, ◌⊎◌, true, false, List, [], ◌∷◌}
+use Rattle.std.specs.Prelude.{ℕ, zero, suc, ◌≡◌, ◌<◌, ◌⊎◌, List, [], ◌∷◌}
 use Rattle.flight_value.specs.declared.graph.Atom.{Atom}
 use Rattle.flight_value.specs.declared.graph.Atom.TheVariants as value
 use Rattle.flight_syntax.specs.declared.word.Keyword.TheVariants.{Date, Symbol, Let, In, If, Then, Else, For, Give, Throw, Map, Set, Use, Promise, Stream, Action, With, Server, Client}
@@ -143,13 +143,20 @@ abbrev pub Parameters : List Placed → Phrase
 Parameters [] words = nothing words
 Parameters (param ∷ params) words = (one lower_of param ▸ MoreParameters params) words
 
+-- a declaration whose expression or JSON value has at most so many levels
+abbrev pub DeclaresTo : ℕ → Declaration → Phrase
+DeclaresTo levels (server named params body) words = (keyword Server ▸ one component_of named ▸ sign OpenParen ▸ Parameters params ▸ sign CloseParen ▸ sign Assign ▸ Spells body levels ▸ sign Semicolon) words
+DeclaresTo levels (client_is named import) words = (keyword Client ▸ one component_of named ▸ sign Assign ▸ SpellsJson import levels ▸ sign Semicolon) words
+DeclaresTo levels (action_is named params body) words = (keyword Action ▸ one lower_of named ▸ sign OpenParen ▸ Parameters params ▸ sign CloseParen ▸ sign Assign ▸ Spells body levels ▸ sign Semicolon) words
+
+abbrev pub DeclaresAllTo : ℕ → List Declaration → Phrase
+DeclaresAllTo levels [] words = nothing words
+DeclaresAllTo levels (first ∷ rest) words = (DeclaresTo levels first ▸ DeclaresAllTo levels rest) words
+
 -- a declaration
 abbrev pub Declares : Declaration → Phrase
-Declares (server named params body) words = (keyword Server ▸ one component_of named ▸ sign OpenParen ▸ Parameters params ▸ sign CloseParen ▸ sign Assign ▸ Spells body most_levels ▸ sign Semicolon) words
-Declares (client_is named import) words = (keyword Client ▸ one component_of named ▸ sign Assign ▸ SpellsJson import most_levels ▸ sign Semicolon) words
-Declares (action_is named params body) words = (keyword Action ▸ one lower_of named ▸ sign OpenParen ▸ Parameters params ▸ sign CloseParen ▸ sign Assign ▸ Spells body most_levels ▸ sign Semicolon) words
+Declares = DeclaresTo most_levels
 
 -- a program
 abbrev pub DeclaresAll : List Declaration → Phrase
-DeclaresAll [] words = nothing words
-DeclaresAll (first ∷ rest) words = (Declares first ▸ DeclaresAll rest) words
+DeclaresAll = DeclaresAllTo most_levels

@@ -1,5 +1,5 @@
 -- The tokens of a text as words: what each says, and what one word is.
-use Rattle.std.specs.Prelude.{ℕ, zero, suc, ◌≡◌, ◌==◌, ◌-◌, ◌||◌, Bool, true, false, if◌then◌else◌, List, [], ◌∷◌, ◌++◌, length, map, take, slice_index, codes, ℤ, pos, negsuc, Option, Some, None}
+use Rattle.std.specs.Prelude.{ℕ, zero, suc, ◌≡◌, ◌==◌, ◌-◌, ◌||◌, Bool, true, false, if◌then◌else◌, List, [], ◌∷◌, ◌++◌, length, map, take, slice_index, codes, pos, negsuc, Option, Some, None}
 use Rattle.std.specs.Char.{is_ascii_uppercase, is_ascii_digit}
 use Rattle.std.specs.Str.{bytes_eq}
 use Rattle.serde_json.specs.Data.{Data, string}
@@ -42,6 +42,16 @@ pub data Word : Type 0 where
   deep : Word
   -- a mark that would begin a postfix or an element beyond the limit. No text has it.
   beyond : (sign : Punctuator) → Word
+
+-- a word that some text has
+abbrev pub IsReal : Word → Type 0
+IsReal deep = ⊥
+IsReal (beyond sign) = ⊥
+IsReal _ = Unit {0}
+
+abbrev pub AreReal : List Word → Type 0
+AreReal [] = Unit {0}
+AreReal (word ∷ words) = IsReal word × AreReal words
 
 -- ---- what a token says
 

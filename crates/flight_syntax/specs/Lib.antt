@@ -13,3 +13,4 @@ pub mod Grammar
 pub mod Literal
 pub mod Faults
 pub mod Form
+pub mod Meaning

@@ -1,5 +1,5 @@
 -- The trees that the productions give, with names as they are written and where they stand.
-use Rattle.std.specs.Prelude.{ℕ, zero, suc, List, [], ◌∷◌, ◌++◌}
+use Rattle.std.specs.Prelude.{ℕ, suc, List, [], ◌∷◌, ◌++◌}
 use Rattle.flight_value.specs.declared.graph.Atom.{Atom}
 use Rattle.flight_syntax.specs.declared.expr.Op.{Op}
 use Rattle.json.specs.Json as json

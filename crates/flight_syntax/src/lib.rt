@@ -7,8 +7,9 @@
 //!
 //! A [`Program`] is the tree of a whole program, with its names resolved, and a [`Script`] is the data that it
 //! is rendered over. Contracts see an [`Expr`] as a term (`specs/Term.antt`), which has no place in memory.
-//! `specs/Derives.antt` says which program a text is: its tokens as words (`specs/Words.antt`) spell a tree
-//! with names by the productions (`specs/Grammar.antt`), whose names stand for what `specs/Scope.antt` says.
+//! `specs/Derives.antt` says which program a text is: its tokens as words (`specs/Lexicon.antt`) spell a tree
+//! with names by the productions (`specs/Grammar.antt`), none of whose names is at fault (`specs/Faults.antt`),
+//! and which stand for what `specs/Scope.antt` says.
 //!
 //! The language is this project's own. Its texts are JSON strings (RFC 8259), as `serde_json` reads them.
 #![tactic(auto)]

@@ -1,6 +1,7 @@
 use Rattle.flight_render.proofs.Larger.{body_at-keeps, node_at-keeps, tabled-keeps, job_of-keeps, comes-keeps, leads-keeps, node-keeps, slot-keeps, reached-keeps, rendered-keeps, stops-keeps}
 use Rattle.flight_render.proofs.Closed.{stands-keeps}
 use Rattle.flight_render.proofs.Sums.{total-grows}
+use Rattle.flight_render.proofs.Dearer.{over-keeps}
 use Rattle.flight_render.proofs.law.larger_rendering.Goals as goal
 
 pub returns : goal.returns
@@ -18,4 +19,5 @@ returns c = record {
   stands = stands-keeps;
   stops = stops-keeps;
   total = total-grows;
+  over = over-keeps;
 }

@@ -1,11 +1,10 @@
 use Rattle.std.proofs.Common.{map, drop, ◌+◌, ◌++◌, subst, ◌≡◌, ◌∙◌, ap, refl, OnOk, IfErr}
 use Rattle.std.proofs.lemmas.Result.{err_from_is_err_and}
-use Rattle.flight_syntax.specs.Term.{Term, term, prop, pair, terms_of, props_of, pairs_of}
+use Rattle.flight_syntax.specs.Term.{term, prop, pair, terms_of, props_of, pairs_of}
 use Rattle.flight_syntax.proofs.Terms.{term-Let, term-If, term-For, term-Index, term-Binary, term-Element, prop-value, pair-value}
 use Rattle.flight_script.specs.Program.{names_in, names_in_terms, names_in_props, names_in_pairs, named_tests}
 use Rattle.flight_script.specs.Tests.{AllPass, Refuses}
 use Rattle.flight_script.proofs.Built.{map_drop}
-use Rattle.flight_script.proofs.Passing.{Passed}
 use Rattle.flight_script.proofs.Naming.{first_refuses, refuses_first, refuses_second, pass_last, err_last, named_on, named_refuses}
 use Rattle.flight_script.proofs.named.+check.Goals as goal
 

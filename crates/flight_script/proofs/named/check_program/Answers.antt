@@ -1,6 +1,5 @@
-use Rattle.std.proofs.Common.{drop, map, ◌+◌, ◌++◌, ap, sym, ◌≡◌, ◌∷◌}
+use Rattle.std.proofs.Common.{drop, map, ◌+◌, ap}
 use Rattle.std.specs.List.{flat_map}
-use Rattle.std.proofs.lemmas.List.{drop_more}
 use Rattle.std.proofs.lemmas.Result.{err_from_is_err_and}
 use Rattle.flight_script.specs.Program.{names_of, named_tests}
 use Rattle.flight_script.proofs.Built.{drop_is}

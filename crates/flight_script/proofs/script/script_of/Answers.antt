@@ -2,6 +2,7 @@ use Rattle.std.proofs.Common.{◌≡◌, ◌∙◌, ap, sym, subst, map, true, c
 use Rattle.std.specs.List.{AllZip, flat_map}
 use Rattle.std.proofs.lemmas.Result.{err_from_is_err_and}
 use Rattle.serde_json.specs.View.{view}
+use Rattle.flight_value.specs.Graph.{Ascend}
 use Rattle.flight_script.specs.Entries.{entries}
 use Rattle.flight_script.specs.Json.{list_at}
 use Rattle.flight_script.specs.Sources.{source_tests, IsSource}
@@ -111,8 +112,9 @@ returns-clause-is c =
     subst (λ ms. AllZip (IsStream (names (sources_in d))) ms c.in_ok-streams.streams.items) tm (subst (λ ns. AllZip (IsStream ns) (entries c.members_at-stream_members.result.now.entries) c.in_ok-streams.streams.items) s1 c.in_ok-streams.ensures.are) in
     let settlers = subst (λ ns. AllZip (AreSettled ns) (list_at (codes "settlers") d) c.in_ok-settlers.settlers.items) s2 c.in_ok-settlers.ensures.are in
     record {
+      sources_ascend = subst (λ ms. Ascend (names ms)) sm c.in_ok-source_names.ensures.ascend;
+      streams_ascend = subst (λ ms. Ascend (names ms)) tm c.in_ok-stream_names.ensures.ascend;
       sources = subst (λ xs. AllZip IsSource (sources_in d) xs) (sym c.new-2.ensures) sources;
       streams = subst (λ xs. AllZip (IsStream (names (sources_in d))) (streams_in d) xs) (sym c.new-3.ensures) streams;
       settlers = subst (λ xs. AllZip (AreSettled (names (sources_in d))) (list_at (codes "settlers") d) xs) (sym c.new-4.ensures) settlers;
     }
-

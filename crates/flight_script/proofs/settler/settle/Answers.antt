@@ -1,4 +1,4 @@
-use Rattle.std.proofs.Common.{map, drop, ◌+◌, ◌++◌, ◌∷◌, [], subst, ◌∙◌, ap, sym, ◌≡◌, Some}
+use Rattle.std.proofs.Common.{map, drop, ◌+◌, ◌++◌, ◌∷◌, [], subst, ◌∙◌, ap, ◌≡◌, Some}
 use Rattle.std.proofs.lemmas.Result.{err_from_is_err_and}
 use Rattle.serde_json.specs.View.{view}
 use Rattle.flight_script.specs.Settlers.{marks, settle_tests}
@@ -23,10 +23,10 @@ loop-item-preserved c =
     record {
       each = done.each;
       settling = λ earlier h.
-      settling_on sources earlier (map view vs) rest (view v) old new
-      (subst (λ ds. Settling sources earlier (map view vs) ds old) (map_drop view vs i v c.loop-item-test.true c.item-item.is) (l.invariant.settling earlier h))
-      (λ now marked. subst (λ n. AllPass (settle_tests sources now n)) is (done.pass now marked))
-      (λ now marked. subst (λ n. new ≡ marks sources (now ++ n ∷ [])) is (done.marks now marked));
+          settling_on sources earlier (map view vs) rest (view v) old new
+          (subst (λ ds. Settling sources earlier (map view vs) ds old) (map_drop view vs i v c.loop-item-test.true c.item-item.is) (l.invariant.settling earlier h))
+          (λ now marked. subst (λ n. AllPass (settle_tests sources now n)) is (done.pass now marked))
+          (λ now marked. subst (λ n. new ≡ marks sources (now ++ n ∷ [])) is (done.marks now marked));
       built = built_next (IsNumberOf sources) view (map view vs) vs i v l.numbers.items c.push.new.self.items c.in_ok-settle_one.field-0 l.invariant.built c.loop-item-test.true c.item-item.is (done.is ∙ ap Some is) c.in_ok-push.ensures.items;
     }
 

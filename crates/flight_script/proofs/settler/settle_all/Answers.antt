@@ -29,9 +29,9 @@ loop-settler-preserved c =
     record {
       each = done.each;
       settling = settlers_on sources [] all own rest old new
-      (subst (λ ds. Settling sources [] all (flat_map list_of ds) old) (map_drop view vs i v c.loop-settler-test.true c.settler-item.is) l.invariant.settling)
-      (λ now marked. subst (λ ds. AllPass (settled_tests sources now ds)) is (done.pass now marked))
-      (λ now marked. subst (λ ds. new ≡ marks sources (now ++ map text ds)) is (done.marks now marked));
+          (subst (λ ds. Settling sources [] all (flat_map list_of ds) old) (map_drop view vs i v c.loop-settler-test.true c.settler-item.is) l.invariant.settling)
+          (λ now marked. subst (λ ds. AllPass (settled_tests sources now ds)) is (done.pass now marked))
+          (λ now marked. subst (λ ds. new ≡ marks sources (now ++ map text ds)) is (done.marks now marked));
       built = built_next (AreSettled sources) view (map view vs) vs i v l.out.items c.push.new.self.items c.new.result l.invariant.built c.loop-settler-test.true c.settler-item.is are c.in_ok-push.ensures.items;
     }
 

@@ -1,4 +1,4 @@
-use Rattle.std.proofs.Common.{◌++◌, subst, String, Global, ◌∙◌, ap, sym, ◌≡◌, refl}
+use Rattle.std.proofs.Common.{subst, String, Global}
 use Rattle.std.specs.List.{flat_map}
 use Rattle.std.proofs.lemmas.Result.{err_from_is_err_and}
 use Rattle.serde_json.specs.declared.value.Value.{Value}
@@ -20,7 +20,7 @@ loop-name-preserved c =
     let name = c.as_str.ensures.value in
     record {
       built = built_step IsSource entry (entries es) l.name-iterator rest e l.sources.items c.push.new.self.items c.in_ok-read_source.field-0 l.invariant.built c.in-Some.ensures.steps
-      (subst (λ n. IsSource (n, (entry e).1) c.in_ok-read_source.field-0) name c.in_ok-read_source.ensures.is) c.in_ok-push.ensures.items;
+          (subst (λ n. IsSource (n, (entry e).1) c.in_ok-read_source.field-0) name c.in_ok-read_source.ensures.is) c.in_ok-push.ensures.items;
       passed = passed_on all (source_tests (entry e)) (flat_map source_tests (entries rest)) here (subst (λ n. AllPass (source_tests (n, (entry e).1))) name c.in_ok-read_source.ensures.pass);
     }
 

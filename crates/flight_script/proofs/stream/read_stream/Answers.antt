@@ -3,7 +3,6 @@ use Rattle.std.specs.Option.{option_to_list}
 use Rattle.std.proofs.lemmas.Result.{err_from_is_err_and}
 use Rattle.serde_json.specs.Find.{get}
 use Rattle.serde_json.specs.View.{view}
-use Rattle.flight_script.specs.declared.fault.ScriptFault.TheVariants.{BadShape}
 use Rattle.flight_script.specs.Json.{list_at}
 use Rattle.flight_script.specs.Streams.{name_test, stream_front}
 use Rattle.flight_script.specs.Tests.{AllPass, Refuses}

@@ -1,4 +1,4 @@
-use Rattle.std.proofs.Common.{map, subst, String, Global, ◌∙◌, ap, sym, ◌≡◌, refl}
+use Rattle.std.proofs.Common.{map, subst, String, Global}
 use Rattle.std.specs.List.{flat_map}
 use Rattle.std.proofs.lemmas.Result.{err_from_is_err_and}
 use Rattle.serde_json.specs.declared.value.Value.{Value}
@@ -21,7 +21,7 @@ loop-name-preserved c =
     let name = c.as_str.ensures.value in
     record {
       built = built_step (IsStream sources) entry (entries es) l.name-iterator rest e l.streams.items c.push.new.self.items c.in_ok-read_stream.field-0 l.invariant.built c.in-Some.ensures.steps
-      (subst (λ n. IsStream sources (n, (entry e).1) c.in_ok-read_stream.field-0) name c.in_ok-read_stream.ensures.is) c.in_ok-push.ensures.items;
+          (subst (λ n. IsStream sources (n, (entry e).1) c.in_ok-read_stream.field-0) name c.in_ok-read_stream.ensures.is) c.in_ok-push.ensures.items;
       passed = passed_on all (stream_tests sources (entry e)) (flat_map (stream_tests sources) (entries rest)) here (subst (λ n. AllPass (stream_tests sources (n, (entry e).1))) name c.in_ok-read_stream.ensures.pass);
     }
 

@@ -1,5 +1,4 @@
-use Rattle.std.proofs.Common.{map, drop, ◌+◌, ◌∷◌, [], subst, ◌∙◌, ap, sym, ◌≡◌, true, Some}
-use Rattle.std.specs.Prelude.{slice_get}
+use Rattle.std.proofs.Common.{map, drop, ◌+◌, ◌∷◌, [], subst, ◌∙◌, ap, ◌≡◌, true, Some}
 use Rattle.std.proofs.lemmas.Result.{err_from_is_err_and}
 use Rattle.serde_json.specs.View.{view}
 use Rattle.flight_script.specs.declared.fault.ScriptFault.TheVariants.{UnknownSource}

@@ -1,7 +1,6 @@
-use Rattle.std.proofs.Common.{sym, ◌∙◌}
-use Rattle.flight_link.specs.Stub.{none_is, is_none}
-use Rattle.flight_link.proofs.Empty.{follows}
+use Rattle.std.proofs.Common.{subst}
+use Rattle.flight_place.specs.Linked.{FollowOn}
 use Rattle.flight_link.proofs.links.Links.follow_on.Goals as goal
 
 pub returns : goal.returns
-returns c = follows c.args.self.now (sym c.self.view_is ∙ none_is _ c.self.invariant)
+returns c = subst FollowOn c.self.view_is c.follow_on.ensures

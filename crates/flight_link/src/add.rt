@@ -1,0 +1,109 @@
+ghost use Rattle.std.specs.Prelude.{◌≡◌, ◌++◌, ◌∷◌, [], ◌<◌, false, length, slice_set, OnOk, OnErr};
+ghost use Rattle.flight_place.specs.Linked.{rows_of};
+ghost use Rattle.flight_link.specs.Adding.{is_of_stream};
+ghost use Rattle.flight_link.specs.Nodes.{IsTable, AreStates, AreQuiet, IsFine};
+ghost use Rattle.flight_link.specs.Growth.{MayCome, number_in, root_of};
+
+use crate::found::Spot;
+use crate::fresh::Fresh;
+use crate::node::State;
+use crate::room::{append_last, put_last};
+use crate::table::{Known, Table};
+use flight_place::PlacedRow;
+use flight_value::{List, Memory};
+use std::alloc::Global;
+
+impl Table {
+    /// Adds a row that may follow the others. Walks go on as far as it lets them.
+    pub fn add(
+        &mut self,
+        states: &mut Vec<State>,
+        alloc: Global,
+        row: PlacedRow,
+    ) -> Result<(), Memory>
+        requires table { IsTable self.old }
+        requires states { AreStates self.old states.old.items }
+        requires quiet { AreQuiet states.old.items }
+        requires none { rows_of row.id self.old.rows.items ≡ [] }
+        requires kind { is_of_stream row.tree.kind ≡ false }
+        requires fine { IsFine row }
+        ensures ok { OnOk result (self.new.rows.items ≡ self.old.rows.items ++ row ∷ []) }
+        ensures err { OnErr result (self.new.rows.items ≡ self.old.rows.items) }
+        ensures table { IsTable self.new }
+        ensures states { AreStates self.new states.new.items }
+        ensures quiet { AreQuiet states.new.items }
+    {
+        let node = self.named(states, row.id)?;
+        self.name_all(states, row.tree.places.as_slice())?;
+        let Ok(number) = u32::try_from(self.rows.len()) else {
+            return Err(Memory);
+        };
+        let fresh = self.fresh(alloc, number, row.tree.places.as_slice())?;
+        self.push_row(states, row, fresh, node)?;
+        self.settle(states);
+        Ok(())
+    }
+
+    /// Adds a row with the nodes of its places.
+    fn push_row(
+        &mut self,
+        states: &mut Vec<State>,
+        row: PlacedRow,
+        fresh: Fresh,
+        node: u32,
+    ) -> Result<(), Memory>
+        requires table { IsTable self.old }
+        requires states { AreStates self.old states.old.items }
+        requires may { MayCome self.old row fresh node }
+        ensures ok { OnOk result (self.new.rows.items ≡ self.old.rows.items ++ row ∷ []) }
+        ensures err { OnErr result (self.new.rows.items ≡ self.old.rows.items) }
+        ensures table { IsTable self.new }
+        ensures states { AreStates self.new states.new.items }
+        ensures quiet { OnErr result (states.new.items ≡ states.old.items) }
+    {
+        let Ok(number) = u32::try_from(self.rows.len()) else {
+            return Err(Memory);
+        };
+        self.rows.reserve(1)?;
+        self.index.reserve(1)?;
+        self.starts.reserve(fresh.starts.len())?;
+        states.reserve(fresh.states.len())?;
+        let known = Known {
+            node,
+            row: Some(number),
+        };
+        self.known.insert(row.id, known)?;
+        let root = root_state(fresh.index.as_slice(), number);
+        let Fresh {
+            index,
+            starts: more_starts,
+            states: more_states,
+        } = fresh;
+        put_last(&mut self.rows, row);
+        put_last(&mut self.index, List::new(index));
+        append_last(&mut self.starts, more_starts);
+        append_last(states, more_states);
+        put_state(states, node, root);
+        Ok(())
+    }
+}
+
+/// The state of an id's node once its row is there.
+fn root_state(index: &[Option<u32>], row: u32) -> State
+    ensures { result ≡ root_of index.now row }
+{
+    match index.first() {
+        Some(Some(node)) => State::Behind {
+            node: *node,
+            left: 0,
+        },
+        _ => State::Ended(Spot { row, place: 0 }),
+    }
+}
+
+fn put_state(states: &mut Vec<State>, node: u32, state: State)
+    requires { node < length states.old.items }
+    ensures { states.new.items ≡ slice_set states.old.items node state }
+{
+    states[node as usize] = state;
+}
