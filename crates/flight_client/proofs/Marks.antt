@@ -1,6 +1,6 @@
 -- Marks stay when more rows come.
 use Rattle.std.proofs.Common.{◌≡◌, ℕ, zero, suc, ◌+◌, ◌<◌, ◌≤◌, Bool, true, false, List, [], ◌∷◌, ◌++◌, length, take, refl, sym, ◌∙◌, ap, subst, Option, Some, None, arith, eq-eqb}
-use Rattle.std.specs.Prelude.{slice_get, sum_by, option_and_then, ◌==◌}
+use Rattle.std.specs.Prelude.{slice_get, option_and_then, ◌==◌}
 use Rattle.std.proofs.lemmas.List.Sums.{sum_by-cons}
 use Rattle.flight_place.specs.declared.place.Place.{Place}
 use Rattle.flight_place.specs.declared.place.Place.TheVariants as place
@@ -10,7 +10,7 @@ use Rattle.flight_place.specs.Linked as linked
 use Rattle.flight_place.specs.Linked.{rows_of, place_at}
 use Rattle.flight_place.specs.Meaning.{Identity, made_at, promise_of, stream_of, action_of}
 use Rattle.flight_place.proofs.MoreRows.{rows_of-append, rows_of-same, rows_of-other, slice_get-front, place-more, places-stay}
-use Rattle.flight_link.specs.Spots.{IsSpot, IsNumber, IsFirst, places_in}
+use Rattle.flight_link.specs.Spots.{IsNumber, IsFirst, places_in}
 use Rattle.flight_link.specs.Looking.{IsMark}
 
 -- ---- lists

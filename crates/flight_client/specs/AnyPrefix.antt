@@ -9,7 +9,7 @@ use Rattle.flight_graph.specs.Canon.{node_at}
 use Rattle.flight_graph.specs.Look.{slot_along}
 use Rattle.flight_place.specs.declared.place.PlacedRow.{PlacedRow}
 use Rattle.flight_place.specs.Meaning.{Written}
-use Rattle.flight_link.specs.Looking.{Sight, sees_atom, sees_node, awaits, no_place, kind_of, Sees, Shows, IsSeen}
+use Rattle.flight_link.specs.Looking.{Sight, sees_atom, sees_node, kind_of, Sees, Shows, IsSeen}
 use Rattle.flight_link.specs.declared.found.Seen.TheVariants as seen
 use Rattle.flight_graph.specs.declared.label.Label as look
 
