@@ -1,9 +1,9 @@
 -- Rows that are added one after another.
-use Rattle.std.proofs.Common.{◌≡◌, ℕ, suc, ◌<◌, length, arith, All, List, [], ◌∷◌, ◌++◌, refl, sym, ◌∙◌, ap, append_assoc, append-nil}
+use Rattle.std.proofs.Common.{suc, arith, All, List, [], ◌∷◌, ◌++◌, sym, ◌∙◌, ap, append_assoc, append-nil}
 use Rattle.std.specs.List.{AllZip}
 use Rattle.flight_feed.specs.declared.arrived.Arrived.{Arrived}
 use Rattle.flight_place.specs.declared.place.PlacedRow.{PlacedRow}
-use Rattle.flight_client.specs.Rows.{IsPlacedRow, AreLinked}
+use Rattle.flight_client.specs.Rows.{IsPlacedRow}
 use Rattle.flight_client.specs.Adding.{IsReadable, Adds}
 
 pub AllZip-append : {X Y : Type 0} (R : X → Y → Type 0) (xs xs' : List X) (ys ys' : List Y) → AllZip R xs ys → AllZip R xs' ys' → AllZip R (xs ++ xs') (ys ++ ys')

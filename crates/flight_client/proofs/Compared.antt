@@ -1,14 +1,14 @@
 -- Two readings of one text, side by side.
-use Rattle.std.proofs.Common.{◌≡◌, ℕ, ◌+◌, List, [], ◌∷◌, ◌++◌, length, refl, sym, ◌∙◌, ap, subst, append_assoc, arith}
+use Rattle.std.proofs.Common.{◌≡◌, ℕ, List, [], ◌∷◌, ◌++◌, refl, sym, ◌∙◌, ap, subst, append_assoc}
 use Rattle.std.specs.List.{AllZip}
 use Rattle.flight_row.specs.declared.row.Row.{Row}
 use Rattle.flight_row.specs.Rows.{Item, handed, rows_of, SpellsItem, SpellAll}
-use Rattle.flight_feed.proofs.Scan.{scan, start, whole}
+use Rattle.flight_feed.proofs.Scan.{scan, start}
 use Rattle.flight_feed.proofs.Readings.{item_whole, one_item, IsTail}
 use Rattle.flight_place.specs.declared.place.Manner.TheVariants.{Wire}
 use Rattle.flight_place.specs.declared.place.PlacedRow.{PlacedRow}
 use Rattle.flight_place.proofs.Trees.{tree-one}
-use Rattle.flight_client.specs.Rows.{IsPlacedRow, ArePlaced, HaveRows}
+use Rattle.flight_client.specs.Rows.{IsPlacedRow, ArePlaced}
 use Rattle.flight_client.proofs.Items.{rows_of-append}
 
 -- ---- items

@@ -1,12 +1,10 @@
 -- Items, the rows among them, and the fronts of a text.
-use Rattle.std.proofs.Common.{◌≡◌, ℕ, ◌+◌, ◌<◌, ◌^◌, All, List, [], ◌∷◌, ◌++◌, length, refl, sym, ◌∙◌, ap, subst, arith, append_assoc, length-append}
-use Rattle.std.specs.Prelude.{IsUtf8}
+use Rattle.std.proofs.Common.{◌≡◌, ℕ, ◌+◌, ◌<◌, ◌^◌, All, List, [], ◌∷◌, ◌++◌, length, refl, sym, ◌∙◌, ap, arith, append_assoc}
 use Rattle.std.specs.List.{AllZip}
 use Rattle.std.proofs.lemmas.List.Elements.{All-cons, All-nil}
-use Rattle.flight_row.specs.declared.row.Row.{Row}
 use Rattle.flight_row.specs.declared.row.RowKind.{RowKind}
 use Rattle.flight_row.specs.declared.row.RowKind.TheVariants as row
-use Rattle.flight_row.specs.Rows.{Item, handed, hint, rows_of, Spells, SpellsItem, SpellAll, IsRow, IsLineHead, IsHead}
+use Rattle.flight_row.specs.Rows.{Item, handed, hint, rows_of, SpellAll, IsRow, IsLineHead}
 use Rattle.flight_feed.specs.declared.arrived.Arrived.{Arrived}
 use Rattle.flight_feed.specs.Stream.{numbered}
 use Rattle.flight_place.specs.declared.place.PlacedRow.{PlacedRow}

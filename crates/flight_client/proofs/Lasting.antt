@@ -1,6 +1,6 @@
 -- What a look showed stays when more rows come.
-use Rattle.std.proofs.Common.{◌≡◌, ◌≢◌, ℕ, zero, suc, List, [], ◌∷◌, ◌++◌, refl, sym, ◌∙◌, ap, subst, append-nil, Option, Some, None, inl, inr}
-use Rattle.std.specs.Prelude.{slice_get, option_and_then}
+use Rattle.std.proofs.Common.{◌≡◌, ◌≢◌, ℕ, List, [], ◌∷◌, ◌++◌, refl, sym, ◌∙◌, ap, subst, append-nil, Option, Some, None, inl, inr}
+use Rattle.std.specs.Prelude.{slice_get}
 use Rattle.flight_value.specs.Store as store
 use Rattle.flight_value.specs.Store.{Label, Shape, Target}
 use Rattle.flight_value.specs.declared.graph.Atom.{Atom}
@@ -10,12 +10,12 @@ use Rattle.flight_text.specs.declared.mark.Ref.{Ref}
 use Rattle.flight_place.specs.declared.place.Place.{Place}
 use Rattle.flight_place.specs.declared.place.Place.TheVariants as place
 use Rattle.flight_place.specs.declared.place.PlacedRow.{PlacedRow}
-use Rattle.flight_place.specs.Linked.{Spot, rows_of, place_at}
-use Rattle.flight_place.specs.Meaning.{Written, Identity, made_at, promise_of, stream_of, action_of, Token, map_token, set_token, token_label, node_here, HasShapeHere, HasTokenShape, Reference, action_shape, reference_of, Leads, HasShape, pending}
-use Rattle.flight_place.specs.Lasting.{HasEnded, HasGrown}
+use Rattle.flight_place.specs.Linked.{Spot, place_at}
+use Rattle.flight_place.specs.Meaning.{Written, Identity, made_at, promise_of, stream_of, action_of, Token, map_token, set_token, token_label, HasShapeHere, HasTokenShape, Reference, action_shape, reference_of, Leads, HasShape, pending}
+use Rattle.flight_place.specs.Lasting.{HasEnded}
 use Rattle.flight_place.proofs.MoreRows.{slice_get-front}
 use Rattle.flight_place.proofs.MoreMeaning.{shape-more, leads-more, stream-grows}
-use Rattle.flight_link.specs.Looking.{Sight, sees_atom, sees_node, awaits, no_place, SeesHere, SeesPast, InSlot, SeesBelow, Sees, kind_of}
+use Rattle.flight_link.specs.Looking.{Sight, sees_atom, sees_node, awaits, no_place, SeesHere, SeesPast, InSlot, Sees, kind_of}
 use Rattle.flight_client.specs.AnyPrefix.{Lasts}
 
 -- ---- a node stays, and a stream that goes on takes more slots behind its own

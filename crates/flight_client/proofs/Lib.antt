@@ -10,3 +10,4 @@ pub mod Shown
 pub mod Lasting
 pub mod Marks
 pub mod Labels
+pub mod OneMark

@@ -1,6 +1,6 @@
 -- Marks stay when more rows come.
 use Rattle.std.proofs.Common.{◌≡◌, ℕ, zero, suc, ◌+◌, ◌<◌, ◌≤◌, Bool, true, false, List, [], ◌∷◌, ◌++◌, length, take, refl, sym, ◌∙◌, ap, subst, Option, Some, None, arith, eq-eqb}
-use Rattle.std.specs.Prelude.{slice_get, sum_by, option_and_then, ◌==◌}
+use Rattle.std.specs.Prelude.{slice_get, option_and_then, ◌==◌}
 use Rattle.std.proofs.lemmas.List.Sums.{sum_by-cons}
 use Rattle.flight_place.specs.declared.place.Place.{Place}
 use Rattle.flight_place.specs.declared.place.Place.TheVariants as place
@@ -10,7 +10,7 @@ use Rattle.flight_place.specs.Linked as linked
 use Rattle.flight_place.specs.Linked.{rows_of, place_at}
 use Rattle.flight_place.specs.Meaning.{Identity, made_at, promise_of, stream_of, action_of}
 use Rattle.flight_place.proofs.MoreRows.{rows_of-append, rows_of-same, rows_of-other, slice_get-front, place-more, places-stay}
-use Rattle.flight_link.specs.Spots.{IsSpot, IsNumber, IsFirst, places_in}
+use Rattle.flight_link.specs.Spots.{IsNumber, IsFirst, places_in}
 use Rattle.flight_link.specs.Looking.{IsMark}
 
 -- ---- lists
@@ -20,17 +20,17 @@ take_kept [] ys n x e = cc
 take_kept (z ∷ xs) ys zero x e = refl
 take_kept (z ∷ xs) ys (suc n) x e = ap (λ zs. z ∷ zs) (take_kept xs ys n x e)
 
-got_within : {A : Type 0} (xs : List A) (n : ℕ) (x : A) → slice_get xs n ≡ Some x → n < length xs
+pub got_within : {A : Type 0} (xs : List A) (n : ℕ) (x : A) → slice_get xs n ≡ Some x → n < length xs
 got_within [] n x e = cc
 got_within (z ∷ xs) zero x e = omega arith
 got_within (z ∷ xs) (suc n) x e = let h = got_within xs n x e in omega arith
 
 -- ---- a row by its number, and by its id
 
-cons_same : (id : ℕ) (r : PlacedRow) (rows : List PlacedRow) → r.id == id ≡ true → rows_of id (r ∷ rows) ≡ r.tree ∷ rows_of id rows
+pub cons_same : (id : ℕ) (r : PlacedRow) (rows : List PlacedRow) → r.id == id ≡ true → rows_of id (r ∷ rows) ≡ r.tree ∷ rows_of id rows
 cons_same id r rows e = rows_of-append id (r ∷ []) rows ∙ ap (λ ts. ts ++ rows_of id rows) (rows_of-same id [] r e)
 
-cons_other : (id : ℕ) (r : PlacedRow) (rows : List PlacedRow) → r.id == id ≡ false → rows_of id (r ∷ rows) ≡ rows_of id rows
+pub cons_other : (id : ℕ) (r : PlacedRow) (rows : List PlacedRow) → r.id == id ≡ false → rows_of id (r ∷ rows) ≡ rows_of id rows
 cons_other id r rows e = rows_of-append id (r ∷ []) rows ∙ ap (λ ts. ts ++ rows_of id rows) (rows_of-other id [] r e)
 
 abbrev IsRowAt : List PlacedRow → List PlacedRow → PlacedRow → Type 0
@@ -53,7 +53,7 @@ row_at (r ∷ rows) (suc j) row e = behind r rows (take j rows) row (r.id == row
 
 -- ---- how many places stand before a row
 
-places_cons : (r : PlacedRow) (rows : List PlacedRow) → places_in (r ∷ rows) ≡ length r.tree.places + places_in rows
+pub places_cons : (r : PlacedRow) (rows : List PlacedRow) → places_in (r ∷ rows) ≡ length r.tree.places + places_in rows
 places_cons r rows = sum_by-cons (λ (x : PlacedRow). length x.tree.places) r rows
 
 before_row : (rows : List PlacedRow) (j : ℕ) (row : PlacedRow) → slice_get rows j ≡ Some row → places_in (take j rows) + length row.tree.places ≤ places_in rows
@@ -80,7 +80,7 @@ before_later (r ∷ rows) more (suc j) e =
 
 -- ---- spots and numbers
 
-spot_id : (rows : List PlacedRow) (j : ℕ) (s : linked.Spot) (row : PlacedRow) → slice_get rows j ≡ Some row → s.id ≡ row.id → s.nth ≡ length (rows_of row.id (take j rows)) → slice_get (rows_of s.id rows) s.nth ≡ Some row.tree
+pub spot_id : (rows : List PlacedRow) (j : ℕ) (s : linked.Spot) (row : PlacedRow) → slice_get rows j ≡ Some row → s.id ≡ row.id → s.nth ≡ length (rows_of row.id (take j rows)) → slice_get (rows_of s.id rows) s.nth ≡ Some row.tree
 spot_id rows j s row e id nth =
     subst (λ i. slice_get (rows_of i rows) s.nth ≡ Some row.tree) (sym id)
     (subst (λ n. slice_get (rows_of row.id rows) n ≡ Some row.tree) (sym nth) (row_at rows j row e))

@@ -1,9 +1,9 @@
 -- A text that ends has one reading, and good rows mean one graph.
-use Rattle.std.proofs.Common.{◌≡◌, ◌≢◌, ℕ, ◌+◌, ◌≤◌, ◌⊎◌, inl, inr, List, [], ◌∷◌, length, refl, sym, ◌∙◌, ap, subst, arith, None, Some}
-use Rattle.flight_row.specs.Rows.{Item, SpellAll}
+use Rattle.std.proofs.Common.{◌≡◌, ◌≢◌, ℕ, ◌+◌, ◌⊎◌, inl, inr, List, [], length, refl, sym, ◌∙◌, ap, subst, arith, Some}
+use Rattle.flight_row.specs.Rows.{Item}
 use Rattle.flight_feed.specs.declared.fault.FeedKind.{FeedKind}
 use Rattle.flight_feed.specs.declared.fault.FeedKind.TheVariants.{Cut}
-use Rattle.flight_feed.specs.Stream.{Splits, Refuses, Fails, IsCut}
+use Rattle.flight_feed.specs.Stream.{Refuses, IsCut}
 use Rattle.flight_feed.proofs.Ends.{splits_whole, fails_cases}
 use Rattle.flight_feed.proofs.Readings.{has_one_reading}
 use Rattle.flight_value.specs.Graph.{IsValid}
@@ -14,7 +14,7 @@ use Rattle.flight_graph.proofs.Drawn.{drawn_one_canon}
 use Rattle.flight_place.specs.declared.place.PlacedRow.{PlacedRow}
 use Rattle.flight_place.specs.Linked as linked
 use Rattle.flight_place.specs.Meaning.{meaning}
-use Rattle.flight_place.specs.Good.{IsGood, IsUndefined, IsLeastUndefined}
+use Rattle.flight_place.specs.Good.{IsGood, IsLeastUndefined}
 use Rattle.flight_place.proofs.OneMeaning.{leads_once, stands_once}
 use Rattle.flight_client.specs.declared.fault.ClientFault.{ClientFault}
 use Rattle.flight_client.specs.declared.fault.ClientFault.TheVariants as fault

@@ -1,11 +1,11 @@
 -- A text has one reading.
-use Rattle.std.proofs.Common.{◌≡◌, ℕ, ◌+◌, List, [], ◌∷◌, ◌++◌, length, refl, sym, ◌∙◌, ap, subst, append_assoc, append-nil, arith, None, Some, Option}
+use Rattle.std.proofs.Common.{◌≡◌, ℕ, ◌+◌, List, [], ◌∷◌, ◌++◌, length, refl, sym, ◌∙◌, ap, subst, append_assoc, None, Some, Option}
 use Rattle.flight_row.specs.declared.row.Row.{Row}
-use Rattle.flight_row.specs.Rows.{Item, handed, rows_of, SpellAll}
+use Rattle.flight_row.specs.Rows.{Item, handed, SpellAll}
 use Rattle.flight_feed.specs.declared.fault.FeedKind.{FeedKind}
 use Rattle.flight_feed.specs.Faults.{IsBad}
 use Rattle.flight_feed.specs.Parts.{IsPart}
-use Rattle.flight_feed.specs.Stream.{Splits, Refuses, Fails, IsCut}
+use Rattle.flight_feed.specs.Stream.{Refuses}
 use Rattle.flight_feed.proofs.Readings.{IsTail, part_tail, bad_tail, has_one_reading}
 use Rattle.flight_place.specs.declared.fault.PlaceKind.{PlaceKind}
 use Rattle.flight_place.specs.declared.place.Manner.TheVariants.{Wire}
@@ -17,11 +17,11 @@ use Rattle.flight_link.specs.declared.fault.LinkKind.{LinkKind}
 use Rattle.flight_link.specs.Adding.{IsRefused}
 use Rattle.flight_client.specs.declared.fault.ClientFault.{ClientFault}
 use Rattle.flight_client.specs.declared.fault.ClientFault.TheVariants as fault
-use Rattle.flight_client.specs.Rows.{IsPlacedRow, ArePlaced, AreLinked, HaveRows, HasSoFar, StartsWith}
-use Rattle.flight_client.specs.Faults.{HasNext, HasFeedFault, HasFault}
+use Rattle.flight_client.specs.Rows.{ArePlaced, AreLinked, HaveRows, HasSoFar, StartsWith}
+use Rattle.flight_client.specs.Faults.{HasFault}
 use Rattle.flight_client.specs.OneReading.{HasOneReading}
 use Rattle.flight_client.proofs.Items.{spell_split}
-use Rattle.flight_client.proofs.Compared.{GoesOn, no_tail, one_next, Compared, same, longer, shorter, compare, one_placed, HasAmong, among}
+use Rattle.flight_client.proofs.Compared.{GoesOn, no_tail, one_next, same, longer, shorter, compare, one_placed, among}
 use Rattle.flight_client.proofs.Refusals.{one_reason, linked_not_refused}
 
 -- ---- where a reading stops

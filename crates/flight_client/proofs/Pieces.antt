@@ -1,10 +1,10 @@
 -- What a piece brings to a client.
-use Rattle.std.proofs.Common.{◌≡◌, ℕ, ◌+◌, ◌<◌, All, List, [], ◌∷◌, ◌++◌, length, refl, sym, ◌∙◌, ap, subst, arith, append_assoc, append-nil, length-append, None, Some, false}
+use Rattle.std.proofs.Common.{◌≡◌, ℕ, All, List, [], ◌∷◌, ◌++◌, refl, sym, ◌∙◌, ap, subst, arith, append_assoc, length-append, Some, false}
 use Rattle.std.specs.Prelude.{Result, Ok, Err, OnOk, IfErr}
 use Rattle.std.specs.List.{AllZip}
 use Rattle.std.proofs.lemmas.List.Elements.{All-nil}
 use Rattle.flight_row.specs.declared.row.Row.{Row}
-use Rattle.flight_row.specs.Rows.{Item, handed, hint, rows_of, SpellAll}
+use Rattle.flight_row.specs.Rows.{Item, handed, rows_of, SpellAll}
 use Rattle.flight_feed.specs.declared.arrived.Arrived.{Arrived}
 use Rattle.flight_feed.specs.declared.fault.FeedKind.{FeedKind}
 use Rattle.flight_feed.specs.Fed.{Fed}
@@ -22,7 +22,7 @@ use Rattle.flight_client.specs.Faults.{HasNext, HasFeedFault}
 use Rattle.flight_client.specs.Held.{IsOn, IsShort, Stands, fault_in}
 use Rattle.flight_client.specs.Adding.{IsReadable, IsFailure, Adds, StopsAt}
 use Rattle.flight_client.proofs.Adding.{AllZip-append}
-use Rattle.flight_client.proofs.Items.{rows_of-append, placed_numbered, all_readable, spell_split, IsAt, numbered_split}
+use Rattle.flight_client.proofs.Items.{rows_of-append, placed_numbered, all_readable, spell_split, numbered_split}
 
 pub came_readable : (bytes : List ℕ) (n : ℕ) (arrived : List Arrived) (rest : List ℕ) (m : ℕ) → Advances bytes n [] arrived rest m → All IsReadable arrived
 came_readable bytes n arrived rest m a = subst (All IsReadable) (sym a.added) (all_readable n a.front a.items a.spelled)

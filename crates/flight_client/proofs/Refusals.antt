@@ -1,7 +1,7 @@
 -- A row is refused for one reason, and never where it may follow.
 use Rattle.std.proofs.Common.{◌≡◌, ℕ, List, [], ◌∷◌, ◌++◌, refl, sym, ◌∙◌, ap, subst, append_assoc, Some, None, true, false}
 use Rattle.std.specs.Prelude.{All}
-use Rattle.std.proofs.Common.{suc, length, ◌<◌, arith, eq-eqb}
+use Rattle.std.proofs.Common.{suc, arith, eq-eqb}
 use Rattle.flight_row.specs.declared.row.RowKind.{RowKind}
 use Rattle.flight_place.specs.declared.place.PlacedRow.{PlacedRow}
 use Rattle.flight_place.specs.Linked.{Standing, Refusal, Verdict, goes, refused, twice, not_open, after_end, next, after, rows_of, standing_of, FollowOn}

@@ -14,7 +14,7 @@ use Rattle.flight_graph.specs.Look.{slot_along}
 use Rattle.flight_place.specs.declared.place.PlacedRow.{PlacedRow}
 use Rattle.flight_place.specs.Meaning.{Written, Identity, made_at, promise_of, stream_of, action_of, Leads, HasShape, meaning}
 use Rattle.flight_place.proofs.OneMeaning.{leads_once, stands_once}
-use Rattle.flight_link.specs.Looking.{Sight, sees_atom, sees_node, awaits, no_place, SeesHere, SeesPast, InSlot, SeesBelow, Sees, Shows}
+use Rattle.flight_link.specs.Looking.{Sight, sees_atom, sees_node, awaits, no_place, SeesHere, SeesPast, InSlot, Sees}
 use Rattle.flight_client.specs.AnyPrefix.{Holds, ShowsAlike}
 
 -- ---- a slot and what is written there lead to one thing
@@ -60,7 +60,7 @@ meets rows g P fits s w f node shape leads has =
       is_node = found.1;
       label = ap (λ x. x.label) is ∙ (nodes.labels ∙ ap (λ x. x.label) same);
       slots = subst (λ x. AllZip (SlotsFit P (of_graph g) (meaning rows)) x shape.slots) (sym (ap (λ x. x.slots) is))
-        (subst (λ x. AllZip (SlotsFit P (of_graph g) (meaning rows)) nodes.here.slots x.slots) same nodes.slots_fit);
+          (subst (λ x. AllZip (SlotsFit P (of_graph g) (meaning rows)) nodes.here.slots x.slots) same nodes.slots_fit);
     }
 
 unsaid : (nodes : List Node) (o : Option Slot) (sight : Sight) → (sight ≡ no_place) → Holds nodes sight o

@@ -1,5 +1,5 @@
 -- What rows that came do to those that were linked, and why a stream may not end; for private clauses.
-use Rattle.std.specs.Prelude.{ℕ, ◌^◌, ◌<◌, ◌≡◌, ◌≢◌, Some, List, [], ◌∷◌, ◌++◌, IsUtf8}
+use Rattle.std.specs.Prelude.{◌^◌, ◌<◌, ◌≡◌, ◌≢◌, Some, List, [], ◌∷◌, ◌++◌, IsUtf8}
 use Rattle.std.specs.List.{AllZip}
 use Rattle.flight_feed.specs.declared.arrived.Arrived.{Arrived}
 use Rattle.flight_feed.specs.declared.fault.FeedKind.TheVariants.{Cut}

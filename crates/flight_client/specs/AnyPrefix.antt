@@ -1,6 +1,6 @@
 -- What a client shows while a stream arrives.
 use Rattle.std.specs.Prelude.{ℕ, ◌≡◌, List, ◌++◌, Option, Some}
-use Rattle.flight_value.specs.Store.{Label, label_of}
+use Rattle.flight_value.specs.Store.{Label, Shape, label_of}
 use Rattle.flight_value.specs.declared.graph.Slot.{Slot}
 use Rattle.flight_value.specs.declared.graph.Slot.TheVariants as slot
 use Rattle.flight_value.specs.declared.graph.Node.{Node}
@@ -8,8 +8,8 @@ use Rattle.flight_value.specs.declared.graph.Graph.{Graph}
 use Rattle.flight_graph.specs.Canon.{node_at}
 use Rattle.flight_graph.specs.Look.{slot_along}
 use Rattle.flight_place.specs.declared.place.PlacedRow.{PlacedRow}
-use Rattle.flight_place.specs.Meaning.{Written}
-use Rattle.flight_link.specs.Looking.{Sight, sees_atom, sees_node, awaits, no_place, kind_of, Sees, Shows, IsSeen}
+use Rattle.flight_place.specs.Meaning.{Written, Identity, HasShape}
+use Rattle.flight_link.specs.Looking.{Sight, sees_atom, sees_node, kind_of, Sees, Shows, IsMark, IsSeen}
 use Rattle.flight_link.specs.declared.found.Seen.TheVariants as seen
 use Rattle.flight_graph.specs.declared.label.Label as look
 
@@ -34,3 +34,8 @@ Lasts rows w path sight = Unit {0}
 -- each label that a look gave, it gives after more rows too, with the same mark
 abbrev pub LabelsStay : List PlacedRow → List PlacedRow → Type 0
 LabelsStay rows more = (path : List ℕ) (l : look.Label) → IsSeen rows path (seen.Label l) → IsSeen (rows ++ more) path (seen.Label l)
+
+-- a node has one mark, and two nodes never have the same
+pub record HasOneMark (rows : List PlacedRow) : Type 0 where
+  pub one_mark : (k : Identity) (m n : ℕ) → IsMark rows k m → IsMark rows k n → m ≡ n
+  pub one_node : (k l : Identity) (x y : Shape Written) (m : ℕ) → HasShape rows k x → HasShape rows l y → IsMark rows k m → IsMark rows l m → k ≡ l

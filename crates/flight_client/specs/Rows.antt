@@ -1,8 +1,8 @@
 -- The rows of a stream with their places, as far as it has come.
-use Rattle.std.specs.Prelude.{ℕ, ◌≡◌, false, List, [], ◌∷◌, ◌++◌, All}
+use Rattle.std.specs.Prelude.{ℕ, ◌≡◌, false, List, ◌++◌, All}
 use Rattle.std.specs.List.{AllZip}
 use Rattle.flight_row.specs.declared.row.Row.{Row}
-use Rattle.flight_row.specs.Rows.{Item, handed, rows_of, SpellAll}
+use Rattle.flight_row.specs.Rows.{Item, rows_of, SpellAll}
 use Rattle.flight_feed.specs.Stream.{Splits}
 use Rattle.flight_place.specs.declared.place.Manner.TheVariants.{Wire}
 use Rattle.flight_place.specs.declared.place.PlacedRow.{PlacedRow}

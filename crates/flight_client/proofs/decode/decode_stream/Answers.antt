@@ -1,8 +1,6 @@
-use Rattle.std.proofs.Common.{◌≡◌, ◌≢◌, ◌++◌, ℕ, List, Some, sym, ◌∙◌, ap, subst, append_assoc}
-use Rattle.std.specs.Prelude.{Err}
+use Rattle.std.proofs.Common.{◌≡◌, ◌++◌, Some, sym, ◌∙◌, ap, subst, append_assoc}
 use Rattle.flight_client.specs.Held.{Stands}
 use Rattle.flight_client.specs.Faults.{EndsWithFault}
-use Rattle.flight_client.specs.declared.fault.ClientFault.TheVariants as fault
 use Rattle.flight_client.proofs.Pieces.{fault_more}
 use Rattle.flight_client.proofs.Finishes.{kept_ends}
 use Rattle.flight_client.proofs.decode.decode_stream.Goals as goal

@@ -1,4 +1,4 @@
-use Rattle.std.proofs.Common.{◌≡◌, ℕ, List, ◌++◌, length, None}
+use Rattle.std.proofs.Common.{◌≡◌, ℕ, List, ◌++◌, length}
 use Rattle.flight_client.specs.Held.{HasTaken}
 use Rattle.flight_client.proofs.decode.decode_stream.Given as goal
 

@@ -1,7 +1,6 @@
-use Rattle.std.proofs.Common.{◌≡◌, ◌∷◌, [], ◌++◌, List, ℕ, ◌<◌, suc, length, get_or, refl, sym, ◌∙◌, ap, subst, append_assoc, arith, All}
+use Rattle.std.proofs.Common.{◌≡◌, ◌∷◌, [], ◌++◌, sym, ◌∙◌, ap, subst, append_assoc, All}
 use Rattle.std.specs.Vec.Iter.{into_iter_items}
-use Rattle.flight_feed.specs.declared.arrived.Arrived.{Arrived}
-use Rattle.flight_client.specs.Adding.{IsReadable, Adds}
+use Rattle.flight_client.specs.Adding.{IsReadable}
 use Rattle.flight_client.proofs.Adding.{adds_none, adds_more, readable_rest}
 use Rattle.flight_client.proofs.rows.link_all.Goals as goal
 

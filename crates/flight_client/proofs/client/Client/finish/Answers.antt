@@ -1,14 +1,12 @@
-use Rattle.std.proofs.Common.{◌≡◌, ◌≢◌, Some, None, sym, ◌∙◌, ap, subst}
-use Rattle.std.specs.Prelude.{Err, IfOk, OnOk}
+use Rattle.std.proofs.Common.{◌≡◌, Some, sym, ◌∙◌, ap, subst}
+use Rattle.std.specs.Prelude.{IfOk, OnOk}
 use Rattle.std.proofs.lemmas.Result.{IfErr-at_err}
 use Rattle.flight_value.specs.Store.{DrawOneGraph, of_graph}
 use Rattle.flight_place.specs.Meaning.{meaning}
 use Rattle.flight_place.specs.Good.{IsGood}
 use Rattle.flight_client.specs.Rows.{IsWhole}
-use Rattle.flight_client.specs.Faults.{EndsWithFault}
 use Rattle.flight_client.specs.Held.{HasTaken, Stands, IsOn}
 use Rattle.flight_client.specs.Adding.{IsEndFault}
-use Rattle.flight_client.specs.declared.fault.ClientFault.TheVariants as fault
 use Rattle.flight_client.proofs.Finishes.{good_on, on_ends, kept_ends}
 use Rattle.flight_client.proofs.client.Client.finish.Goals as goal
 
