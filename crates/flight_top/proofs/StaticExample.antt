@@ -21,10 +21,10 @@ drawn : Graph
 drawn = record {
   root = slot.Node 0;
   nodes = node.Element (slot.Atom (atom.Text (codes "p"))) (slot.Atom atom.Null) (slot.Node 1)
-  ∷ node.Object (named (codes "id") (slot.Atom (atom.Text (codes "a"))) ∷ named (codes "n") (slot.Node 2) ∷ [])
-  ∷ node.Array (slot.Atom (atom.Whole (pos 1)) ∷ slot.Node 3 ∷ [])
-  ∷ node.Object (named (codes "x") (slot.Atom atom.Null) ∷ [])
-  ∷ [];
+      ∷ node.Object (named (codes "id") (slot.Atom (atom.Text (codes "a"))) ∷ named (codes "n") (slot.Node 2) ∷ [])
+      ∷ node.Array (slot.Atom (atom.Whole (pos 1)) ∷ slot.Node 3 ∷ [])
+      ∷ node.Object (named (codes "x") (slot.Atom atom.Null) ∷ [])
+      ∷ [];
 }
 
 example-drawn : graph_of example ≡ drawn
