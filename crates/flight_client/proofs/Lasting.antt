@@ -20,12 +20,12 @@ use Rattle.flight_client.specs.AnyPrefix.{Lasts}
 
 -- ---- a node stays, and a stream that goes on takes more slots behind its own
 
-record Grows (rows more : List PlacedRow) (k : Identity) (shape : Shape Written) : Type 0 where
-  later : Shape Written
-  has : HasShape (rows ++ more) k later
-  kind : kind_of later.label ≡ kind_of shape.label
-  rest : List Written
-  slots : later.slots ≡ shape.slots ++ rest
+pub record Grows (rows more : List PlacedRow) (k : Identity) (shape : Shape Written) : Type 0 where
+  pub later : Shape Written
+  pub has : HasShape (rows ++ more) k later
+  pub kind : kind_of later.label ≡ kind_of shape.label
+  pub rest : List Written
+  pub slots : later.slots ≡ shape.slots ++ rest
 
 same_shape : (x y : Shape Written) → Some x ≡ Some y → HasEnded x.label → HasEnded y.label
 same_shape x y e h = let s : x ≡ y = cc in subst (λ z. HasEnded z.label) s h
@@ -36,7 +36,7 @@ token_ended rows token r shape e h = subst (λ z. HasEnded z.label) (sym h.2) e
 none_shape : (P : Type 0) (y : Shape Written) → None ≡ Some y → P
 none_shape P y e = cc
 
-made_ended : (rows : List PlacedRow) (s : Spot) (o : Option Place) (shape : Shape Written) → HasShapeHere rows s o shape → HasEnded shape.label
+pub made_ended : (rows : List PlacedRow) (s : Spot) (o : Option Place) (shape : Shape Written) → HasShapeHere rows s o shape → HasEnded shape.label
 made_ended rows s None shape h = none_shape (HasEnded shape.label) shape h
 made_ended rows s (Some (place.Atom a)) shape h = none_shape (HasEnded shape.label) shape h
 made_ended rows s (Some (place.Array ns)) shape h = same_shape _ shape h tt
@@ -49,7 +49,7 @@ made_ended rows s (Some (place.Map at)) shape h = token_ended rows map_token at 
 made_ended rows s (Some (place.Set at)) shape h = token_ended rows set_token at shape tt h
 made_ended rows s (Some (place.Action id)) shape h = none_shape (HasEnded shape.label) shape h
 
-action_ended : (o : Option Reference) (shape : Shape Written) → action_shape o ≡ Some shape → HasEnded shape.label
+pub action_ended : (o : Option Reference) (shape : Shape Written) → action_shape o ≡ Some shape → HasEnded shape.label
 action_ended (Some r) shape h = same_shape _ shape h tt
 action_ended None shape h = none_shape (HasEnded shape.label) shape h
 
@@ -83,15 +83,15 @@ grows_by rows more k shape (store.stream flow store.closed) e h = stays_ended ro
 grows_by rows more k shape (store.stream flow (store.broken digest)) e h = stays_ended rows more k shape (subst HasEnded (sym e) tt) h
 grows_by rows more k shape (store.stream flow store.flowing) e h = flows_on rows more k shape flow e h
 
-grows : (rows more : List PlacedRow) (k : Identity) (shape : Shape Written) → HasShape rows k shape → Grows rows more k shape
+pub grows : (rows more : List PlacedRow) (k : Identity) (shape : Shape Written) → HasShape rows k shape → Grows rows more k shape
 grows rows more k shape h = grows_by rows more k shape shape.label refl h
 
 -- ---- along a path
 
-node_not_pending : (k : Identity) → store.node_at k ≢ pending
+pub node_not_pending : (k : Identity) → store.node_at k ≢ pending
 node_not_pending k e = cc
 
-atom_not_pending : (a : Atom) → a ≢ atom.Pending → store.atom a ≢ pending
+pub atom_not_pending : (a : Atom) → a ≢ atom.Pending → store.atom a ≢ pending
 atom_not_pending a n e = n (let same : a ≡ atom.Pending = cc in same)
 
 lasts_no_place : (rows : List PlacedRow) (w : Written) (path : List ℕ) (sight : Sight) → sight ≡ no_place → Lasts rows w path sight

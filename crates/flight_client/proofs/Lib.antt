@@ -10,4 +10,6 @@ pub mod Shown
 pub mod Lasting
 pub mod Marks
 pub mod Labels
+pub mod SlotsThere
+pub mod NoPlace
 pub mod OneMark

@@ -9,7 +9,7 @@ use Rattle.flight_place.specs.declared.place.PlacedRow.{PlacedRow}
 use Rattle.flight_place.specs.Linked as linked
 use Rattle.flight_place.specs.Linked.{rows_of, place_at}
 use Rattle.flight_place.specs.Meaning.{Written, Identity, made_at, promise_of, stream_of, action_of, HasShapeHere, HasShape}
-use Rattle.flight_link.specs.Spots.{IsSpot, IsNumber, IsFirst, places_in}
+use Rattle.flight_link.specs.Spots.{IsNumber, IsFirst, places_in}
 use Rattle.flight_link.specs.Looking.{IsMark}
 use Rattle.flight_client.specs.AnyPrefix.{HasOneMark}
 use Rattle.flight_client.proofs.Marks.{cons_same, cons_other, places_cons, spot_id, got_within}

@@ -35,6 +35,10 @@ Lasts rows w path sight = Unit {0}
 abbrev pub LabelsStay : List PlacedRow → List PlacedRow → Type 0
 LabelsStay rows more = (path : List ℕ) (l : look.Label) → IsSeen rows path (seen.Label l) → IsSeen (rows ++ more) path (seen.Label l)
 
+-- a path that leads to no place leads to none after more rows too
+abbrev pub NoPlaceStays : List PlacedRow → List PlacedRow → Type 0
+NoPlaceStays rows more = (path : List ℕ) → IsSeen rows path seen.NoPlace → IsSeen (rows ++ more) path seen.NoPlace
+
 -- a node has one mark, and two nodes never have the same
 pub record HasOneMark (rows : List PlacedRow) : Type 0 where
   pub one_mark : (k : Identity) (m n : ℕ) → IsMark rows k m → IsMark rows k n → m ≡ n

@@ -4,7 +4,7 @@ ghost use Rattle.flight_value.specs.declared.graph.Graph.{Graph};
 ghost use Rattle.flight_place.specs.declared.place.PlacedRow.{PlacedRow};
 ghost use Rattle.flight_place.specs.Meaning.{Written, meaning};
 ghost use Rattle.flight_link.specs.Looking.{Sight, Sees};
-ghost use Rattle.flight_client.specs.AnyPrefix.{HasOneMark, LabelsStay, Lasts, ShowsAlike};
+ghost use Rattle.flight_client.specs.AnyPrefix.{HasOneMark, LabelsStay, Lasts, NoPlaceStays, ShowsAlike};
 ghost use Rattle.flight_client.specs.OneReading.{HasOneReading, HasOneEnd};
 
 /// A law, which does nothing: a stream has one reading, whatever the pieces in which it comes. What has come of it is
@@ -24,6 +24,11 @@ pub fn partial_as_seen()
 pub fn labels_stay()
     ensures sights { (rows more : List PlacedRow) (path : List ℕ) (w : Written) (sight : Sight) → Sees rows w path sight → Lasts (rows ++ more) w path sight }
     ensures labels { (rows more : List PlacedRow) → LabelsStay rows more }
+{}
+
+/// A law: where a path leads to no place, it leads to none when more rows come.
+pub fn no_place_stays()
+    ensures { (rows more : List PlacedRow) → NoPlaceStays rows more }
 {}
 
 /// A law: a node has one mark, and two nodes never have the same.
