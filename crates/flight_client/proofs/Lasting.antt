@@ -7,6 +7,7 @@ use Rattle.flight_value.specs.declared.graph.Atom.{Atom}
 use Rattle.flight_value.specs.declared.graph.Atom.TheVariants as atom
 use Rattle.flight_value.specs.declared.graph.Flow.{Flow}
 use Rattle.flight_text.specs.declared.mark.Ref.{Ref}
+use Rattle.flight_graph.specs.Look.{kind_of}
 use Rattle.flight_place.specs.declared.place.Place.{Place}
 use Rattle.flight_place.specs.declared.place.Place.TheVariants as place
 use Rattle.flight_place.specs.declared.place.PlacedRow.{PlacedRow}
@@ -15,7 +16,7 @@ use Rattle.flight_place.specs.Meaning.{Written, Identity, made_at, promise_of, s
 use Rattle.flight_place.specs.Lasting.{HasEnded}
 use Rattle.flight_place.proofs.MoreRows.{slice_get-front}
 use Rattle.flight_place.proofs.MoreMeaning.{shape-more, leads-more, stream-grows}
-use Rattle.flight_link.specs.Looking.{Sight, sees_atom, sees_node, awaits, no_place, SeesHere, SeesPast, InSlot, Sees, kind_of}
+use Rattle.flight_link.specs.Looking.{Sight, sees_atom, sees_node, awaits, no_place, SeesHere, SeesPast, InSlot, Sees}
 use Rattle.flight_client.specs.AnyPrefix.{Lasts}
 
 -- ---- a node stays, and a stream that goes on takes more slots behind its own
