@@ -4,7 +4,6 @@ ghost use Rattle.flight_value.specs.Store.{DrawOneGraph, of_graph};
 ghost use Rattle.flight_place.specs.Meaning.{meaning};
 ghost use Rattle.flight_place.specs.Good.{IsGood};
 ghost use Rattle.flight_link.specs.Looking.{IsSeen};
-ghost use Rattle.flight_link.specs.Origins.{AreOrigins};
 ghost use Rattle.flight_client.specs.Rows.{IsWhole};
 ghost use Rattle.flight_client.specs.Faults.{EndsWithFault};
 ghost use Rattle.flight_client.specs.Held.{HasTaken};
@@ -85,13 +84,6 @@ impl Client {
         ensures { IfOk result (λ g. IsValid g × DrawOneGraph (of_graph g) (meaning self.now.rows)) }
     {
         self.links.graph(alloc)
-    }
-
-    /// For each node of the canon of that graph, in order, the id of the row that holds it.
-    pub fn origins(&self, alloc: Global) -> Result<flight_value::List<u32>, Memory>
-        ensures { IfOk result (AreOrigins self.now.rows) }
-    {
-        self.links.origins(alloc)
     }
 
     /// Ends the stream: the graph that its rows mean, where they are good. Else the fault that was kept, or a row that

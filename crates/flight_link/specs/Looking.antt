@@ -11,7 +11,7 @@ use Rattle.flight_place.specs.Linked.{rows_of, Spot, place_at}
 use Rattle.flight_place.specs.Resolve.{Path, to, found, not_yet, Ends}
 use Rattle.flight_place.specs.Meaning.{Written, value_of, Identity, made_at, promise_of, stream_of, action_of, pending, stand_of, Leads, HasShape}
 use Rattle.flight_graph.specs.declared.label.Label.TheVariants as look
-use Rattle.flight_graph.specs.Look.{kind_of}
+pub use Rattle.flight_graph.specs.Look.{kind_of}
 use Rattle.flight_link.specs.declared.found.Seen.{Seen}
 use Rattle.flight_link.specs.declared.found.Seen.TheVariants as seen
 use Rattle.flight_link.specs.Spots.{IsNumber, IsFirst}
