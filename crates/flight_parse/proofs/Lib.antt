@@ -1,0 +1,4 @@
+pub mod Dates
+pub mod Turns
+pub mod Names
+pub mod Chains

@@ -1,0 +1,13 @@
+//! The parser of the component language.
+#![tactic(auto)]
+
+mod build;
+mod lexeme;
+mod numeral;
+mod stop;
+mod tag;
+mod terminal;
+mod tree;
+mod word;
+
+pub use lexeme::{Lexeme, Name, lexemes};
