@@ -11,7 +11,7 @@ use Rattle.flight_parse.specs.declared.lexeme.Lexeme.{Lexeme}
 use Rattle.flight_parse.specs.declared.lexeme.Lexeme.TheVariants as code
 use Rattle.flight_parse.specs.declared.stop.Stop.{Stop}
 use Rattle.flight_parse.specs.declared.stop.Stop.TheVariants as stops
-use Rattle.flight_parse.specs.Code.{Fails, Gives, words, word, post}
+use Rattle.flight_parse.specs.Code.{Fails, Gives, words, word, postfix}
 
 -- ---- postfixes
 
@@ -47,7 +47,7 @@ bracket_split : (n : ℕ) (e : Reader Tree) (r : Read Tree)
 bracket_split n e (Ok a) = indexed_next a.0 (reader.posts n e a.1)
 bracket_split n e (Err f) = refl
 
-split : (n : ℕ) (e : Reader Tree) (ls : List Lexeme) → next_is starts_post (words ls) ≡ true → reader.posts (suc n) e (words ls) ≡ then_posts n e (post e (words ls))
+split : (n : ℕ) (e : Reader Tree) (ls : List Lexeme) → next_is starts_post (words ls) ≡ true → reader.posts (suc n) e (words ls) ≡ then_posts n e (postfix e (words ls))
 split n e [] h = absurd cc
 split n e (code.Mark signs.Dot ∷ ls) h = dot_split n e (want lexicon.name_of (words ls))
 split n e (code.Mark signs.OpenBracket ∷ ls) h = bracket_split n e (closed e (lexicon.is_mark signs.CloseBracket) (words ls))
@@ -83,7 +83,7 @@ too_many_posts s count i e t ls total inv lt h is =
 
 -- one more was read
 pub more_posts : (count i : ℕ) (e : Reader Tree) (t u : Tree) (p : Post) (ls : List Lexeme) (after : List Word) (total : Read Tree)
-    → left_posts count i e t (words ls) ≡ total → i < count → next_is starts_post (words ls) ≡ true → post e (words ls) ≡ Ok (p, after) → u ≡ posted t (p ∷ [])
+    → left_posts count i e t (words ls) ≡ total → i < count → next_is starts_post (words ls) ≡ true → postfix e (words ls) ≡ Ok (p, after) → u ≡ posted t (p ∷ [])
     → left_posts count (i + 1) e u after ≡ total
 more_posts count i e t u p ls after total inv lt h f is =
     let k : count - i ≡ suc (count - (i + 1)) = omega arith in
@@ -96,7 +96,7 @@ more_posts count i e t u p ls after total inv lt h f is =
 
 -- one more fails
 pub fails_posts : (s : Stop) (count i : ℕ) (e : Reader Tree) (t : Tree) (ls : List Lexeme) (total : Read Tree)
-    → left_posts count i e t (words ls) ≡ total → i < count → next_is starts_post (words ls) ≡ true → Fails s (post e (words ls)) → Fails s total
+    → left_posts count i e t (words ls) ≡ total → i < count → next_is starts_post (words ls) ≡ true → Fails s (postfix e (words ls)) → Fails s total
 fails_posts stops.Memory count i e t ls total inv lt h f = tt
 fails_posts (stops.Fault deep left) count i e t ls total inv lt h f =
     let k : count - i ≡ suc (count - (i + 1)) = omega arith in

@@ -1,5 +1,5 @@
 -- The code's lexemes and trees as plain data, and what a result says of a reader.
-use Rattle.std.specs.Prelude.{ℕ, ◌≡◌, Bool, List, map, Option, Some, None, Result, Ok, Err}
+use Rattle.std.specs.Prelude.{ℕ, ◌≡◌, Bool, true, false, List, map, Option, Some, None, Result, Ok, Err}
 use Rattle.flight_syntax.specs.Lexicon.{Placed, Word, U, is_mark, name_of}
 use Rattle.flight_syntax.specs.Lexicon as lexicon
 use Rattle.flight_syntax.specs.Tree as tree
@@ -87,8 +87,13 @@ post_of (posts.Named name) = reader.named (placed name)
 post_of (posts.Indexed at) = reader.indexed (tree_of at)
 
 -- the reader of one postfix
-abbrev pub post : Reader Tree → Reader reader.Post
-post e = choice (at (is_mark Dot)) (behind (is_mark Dot) (made reader.named (want name_of))) (behind (is_mark OpenBracket) (made reader.indexed (closed e (is_mark CloseBracket))))
+abbrev pub postfix : Reader Tree → Reader reader.Post
+postfix e = choice (at (is_mark Dot)) (behind (is_mark Dot) (made reader.named (want name_of))) (behind (is_mark OpenBracket) (made reader.indexed (closed e (is_mark CloseBracket))))
+
+-- the reader of expressions, or of child elements, of at most so many levels
+abbrev pub at_level : Bool → ℕ → Reader Tree
+at_level true depth = reader.child_element depth
+at_level false depth = reader.expression depth
 
 -- ---- results
 

@@ -2,6 +2,7 @@
 #![tactic(auto)]
 
 mod build;
+mod expression;
 mod lexeme;
 mod numeral;
 mod stop;
