@@ -12,3 +12,4 @@ pub mod StaticLines
 pub mod StaticPrograms
 pub mod StaticRows
 pub mod StaticExample
+pub mod ViewWords

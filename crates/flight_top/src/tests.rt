@@ -52,8 +52,18 @@ fn views_one_row(rt: HostRuntime) -> Result<(), Fail> {
     assert!(rt; views(&rt, "0:\"$$5\"\n", Status::Done, "root \"$5\"\n")?);
     assert!(rt; views(&rt, "0:[{},{}]\n", Status::Done, two)?);
     assert!(rt; views(&rt, "", Status::Stream, "stream: no root\n")?);
-    assert!(rt; views(&rt, "0:1.5\n", Status::Stream, "stream: not built\n")?);
-    assert!(rt; views(&rt, "0:{\"a\":1", Status::Stream, "stream: not built\n")?);
+    assert!(rt; views(&rt, "0:1.5\n", Status::Stream, "stream: row 1: number\n")?);
+    assert!(rt; views(&rt, "0:{\"a\":1", Status::Stream, "stream: row 1: cut\n")?);
+    assert!(rt;
+        views(
+            &rt,
+            "0:1\n0:2\n",
+            Status::Stream,
+            "stream: row 2: twice 0\n"
+        )?
+    );
+    assert!(rt; views(&rt, "0:\"$1f\"\n", Status::Stream, "stream: undefined 1f\n")?);
+    assert!(rt; views(&rt, "1f:2\n0:\"$1f\"\n", Status::Done, "root 2\n")?);
     Ok(())
 }
 
@@ -170,10 +180,36 @@ fn refuses(rt: &HostRuntime, texts: &[&str]) -> Result<bool, Fail> {
 }
 
 #[test]
+fn takes_cuts(rt: HostRuntime) -> Result<(), Fail> {
+    for cut in [
+        ["--cut=1"].as_slice(),
+        ["--cut=0000000007"].as_slice(),
+        ["--cut", "65536"].as_slice(),
+    ] {
+        let mut view = words(&rt, ["view"].as_slice())?;
+        for text in cut {
+            view.push(String::from_str(rt.alloc(), text)?)?;
+        }
+        let mut source = source(&rt, ELEMENT, [].as_slice())?;
+        let mut sink = sink(&rt, [].as_slice())?;
+        let told = flight_alone(rt.alloc(), view.as_slice(), &mut source, &mut sink);
+        assert!(rt; told.status == Status::Done && sink.held() == ELEMENT_TEXT.as_bytes());
+    }
+    Ok(())
+}
+
+#[test]
 fn refuses_other_words(rt: HostRuntime) -> Result<(), Fail> {
     assert!(rt; refuses(&rt, [].as_slice())?);
     assert!(rt; refuses(&rt, ["views"].as_slice())?);
     assert!(rt; refuses(&rt, ["view", "x"].as_slice())?);
     assert!(rt; refuses(&rt, ["--", "view"].as_slice())?);
+    assert!(rt; refuses(&rt, ["view", "--cut"].as_slice())?);
+    assert!(rt; refuses(&rt, ["view", "--cut", "0"].as_slice())?);
+    assert!(rt; refuses(&rt, ["view", "--cut=65537"].as_slice())?);
+    assert!(rt; refuses(&rt, ["view", "--cut=+7"].as_slice())?);
+    assert!(rt; refuses(&rt, ["view", "--cut=00000000007"].as_slice())?);
+    assert!(rt; refuses(&rt, ["--cut=7", "view"].as_slice())?);
+    assert!(rt; refuses(&rt, ["view", "--cut", "7", "--cut=7"].as_slice())?);
     Ok(())
 }
