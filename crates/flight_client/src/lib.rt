@@ -23,4 +23,4 @@ mod tests;
 pub use client::Client;
 pub use decode::decode_stream;
 pub use fault::ClientFault;
-pub use law::{labels_stay, marks_tell_nodes, one_reading, partial_as_seen};
+pub use law::{labels_stay, marks_tell_nodes, no_place_stays, one_reading, partial_as_seen};

@@ -46,7 +46,7 @@ fn runs(rt: &HostRuntime, input: &[u8], status: Status, text: &str) -> Result<bo
 }
 
 #[test]
-fn views_one_row(rt: HostRuntime) -> Result<(), Fail> {
+fn views_streams(rt: HostRuntime) -> Result<(), Fail> {
     let two = "root #0\n#0 array [#1,#2]\n#1 object {}\n#2 object {}\n";
     assert!(rt; views(&rt, ELEMENT, Status::Done, ELEMENT_TEXT)?);
     assert!(rt; views(&rt, "0:\"$$5\"\n", Status::Done, "root \"$5\"\n")?);
