@@ -4,13 +4,15 @@ use Rattle.std.specs.Prelude.{String, Result, Ok, Err, IfOk}
 use Rattle.flight_top.specs.declared.due.Due.{Due}
 use Rattle.flight_top.specs.declared.due.Undue.{Undue}
 use Rattle.std.specs.declared.alloc.Global.{Global}
-use Rattle.std.proofs.lemmas.List.{length-replicate}
 use Rattle.flight_base.specs.Outside.{IsAll, IsMore}
 use Rattle.flight_top.specs.declared.told.Status.{Status}
 use Rattle.flight_top.specs.declared.told.Status.TheVariants as status
 use Rattle.flight_top.specs.Told.{is_whole}
-use Rattle.flight_top.specs.Due.{IsDue, usage, view, run, texts}
+use Rattle.flight_top.specs.Due.{IsDue, usage, view, plain, run, texts}
+use Rattle.flight_top.proofs.Long.{long_list}
+use Rattle.flight_top.proofs.Plains.{plain-whole}
 use Rattle.flight_top.specs.View.{IsDueView, IsDueViewOf, most_stream}
+use Rattle.flight_top.specs.Plain.{IsPlainWords, IsDuePlainOf}
 use Rattle.flight_top.specs.Run.{IsDueRun, IsDueRunOf, most_bundle}
 
 -- a refusal is due with its own status and line
@@ -52,11 +54,8 @@ run-whole input status.Memory text h = absurd h
 pub due-whole : (words : List (List ℕ)) (left : Option (List ℕ)) (s : Status) (text : List ℕ) → IsDue words left s text → is_whole s ≡ true
 due-whole words left s text (usage is_none is_status is_text) = ap is_whole is_status
 due-whole words left s text (view is_view is_due) = view-whole is_due.0 s text is_due.2
+due-whole words left s text (plain fuel is_plain is_due) = plain-whole fuel is_due.0 s text is_due.2
 due-whole words left s text (run is_run is_due) = run-whole is_due.0 s text is_due.2
-
--- there are longer lists
-long_list : (n : ℕ) → (input : List ℕ) × (n < length input)
-long_list n = (replicate (n + 1) 0, rw length-replicate (omega arith))
 
 -- more bytes than a stream may have
 pub too_long : (left : Option (List ℕ)) → IsMore most_stream left → IsDueViewOf left status.Stream (codes "stream: too long\n")
@@ -73,3 +72,8 @@ pub one_word : (words : List (String Global)) (word : String Global) → 1 ≤ l
 one_word [] word least most is_word = absurd (omega arith)
 one_word (a ∷ []) word least most is_word = rw is_word refl
 one_word (a ∷ b ∷ ws) word least most is_word = absurd (omega arith)
+
+-- what is owed for the words of `plain`
+pub due_plain : (words : List (List ℕ)) (left : Option (List ℕ)) (fuel : ℕ) (r : Result Due Undue) → IsPlainWords words fuel → IfOk r (λ due. IsDuePlainOf fuel left due.status due.text) → IfOk r (λ due. IsDue words left due.status due.text)
+due_plain words left fuel (Ok due) is h = plain fuel is h
+due_plain words left fuel (Err e) is h = h

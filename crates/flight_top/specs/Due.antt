@@ -4,6 +4,7 @@ use Rattle.std.specs.declared.alloc.Global.{Global}
 use Rattle.flight_base.specs.Outside.{appended}
 use Rattle.flight_top.specs.View.{IsView, IsDueViewOf}
 use Rattle.flight_top.specs.Run.{IsRun, IsDueRunOf}
+use Rattle.flight_top.specs.Plain.{IsPlain, IsPlainWords, IsDuePlainOf}
 use Rattle.flight_top.specs.declared.told.Status.{Status}
 use Rattle.flight_top.specs.declared.told.Status.TheVariants as status
 
@@ -16,7 +17,7 @@ texts words = map (λ w. string_bytes w) words
 -- ---- any words
 
 abbrev pub IsCommand : List (List ℕ) → Type 0
-IsCommand words = IsView words ⊎ IsRun words
+IsCommand words = IsView words ⊎ (IsRun words ⊎ IsPlain words)
 
 abbrev pub usage_line : List ℕ
 usage_line = codes "usage: flight COMMAND [OPTIONS]\n"
@@ -25,6 +26,7 @@ usage_line = codes "usage: flight COMMAND [OPTIONS]\n"
 pub data IsDue (words : List (List ℕ)) (left : Option (List ℕ)) (s : Status) (text : List ℕ) : Type 0 where
   usage : (is_none : ¬ (IsCommand words)) (is_status : s ≡ status.Usage) (is_text : text ≡ usage_line) → IsDue words left s text
   view : (is_view : IsView words) (is_due : IsDueViewOf left s text) → IsDue words left s text
+  plain : (fuel : ℕ) (is_plain : IsPlainWords words fuel) (is_due : IsDuePlainOf fuel left s text) → IsDue words left s text
   run : (is_run : IsRun words) (is_due : IsDueRunOf left s text) → IsDue words left s text
 
 -- ---- what was written

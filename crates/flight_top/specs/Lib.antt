@@ -3,7 +3,10 @@ pub mod Fine
 pub mod Lines
 pub mod OneRow
 pub mod Told
+pub mod Words
 pub mod View
+pub mod BundleLines
+pub mod Plain
 pub mod Due
 pub mod Static
 pub mod Drawn

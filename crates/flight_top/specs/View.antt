@@ -1,6 +1,5 @@
 -- `view`: its words, and what it owes for a stream.
-use Rattle.std.specs.Prelude.{ℕ, ◌<◌, ◌≤◌, ◌≡◌, ◌⊎◌, List, [], ◌∷◌, ◌++◌, length, Option, codes}
-use Rattle.std.specs.Str.Parse.{IsNumeral, digits_value}
+use Rattle.std.specs.Prelude.{ℕ, ◌<◌, ◌≤◌, ◌≡◌, ◌⊎◌, List, length, Option, codes}
 use Rattle.flight_base.specs.Outside.{IsAll}
 use Rattle.flight_value.specs.Graph.{IsValid}
 use Rattle.flight_value.specs.declared.graph.Graph.{Graph}
@@ -9,27 +8,15 @@ use Rattle.flight_client.specs.Faults.{EndsWithFault}
 use Rattle.flight_client.specs.Meant.{IsMeant}
 use Rattle.flight_client.specs.declared.fault.ClientFault.{ClientFault}
 use Rattle.flight_top.specs.Lines.{fault_line}
+use Rattle.flight_top.specs.Words.{AreOf}
 use Rattle.flight_top.specs.declared.told.Status.{Status}
 use Rattle.flight_top.specs.declared.told.Status.TheVariants as status
 
 -- ---- words
 
--- one to ten decimal digits, leading zeros among them, that spell a length of pieces
-pub record IsCut (text : List ℕ) (cut : ℕ) : Type 0 where
-  pub digits : IsNumeral 10 text
-  pub short : length text ≤ 10
-  pub value : digits_value 10 text ≡ cut
-  pub least : 1 ≤ cut
-  pub most : cut ≤ 65536
-
--- the command, with the length of pieces in a word of its own or in one with the option; by itself it is 65,536
-pub data IsViewWords : List (List ℕ) → ℕ → Type 0 where
-  alone : IsViewWords (codes "view" ∷ []) 65536
-  apart : (text : List ℕ) (cut : ℕ) → IsCut text cut → IsViewWords (codes "view" ∷ codes "--cut" ∷ text ∷ []) cut
-  joined : (text : List ℕ) (cut : ℕ) → IsCut text cut → IsViewWords (codes "view" ∷ (codes "--cut=" ++ text) ∷ []) cut
-
+-- the command, with the length of pieces, from 1 to 65,536; by itself it is 65,536
 abbrev pub IsView : List (List ℕ) → Type 0
-IsView words = (cut : ℕ) × IsViewWords words cut
+IsView words = AreOf (codes "view") (codes "--cut") 65536 words
 
 -- ---- streams
 

@@ -2,10 +2,11 @@ ghost use Rattle.std.specs.Prelude.{◌≡◌, IfOk, IfErr};
 ghost use Rattle.flight_base.specs.Outside.{Rose};
 ghost use Rattle.flight_top.specs.Due.{IsCommand, IsDue, texts};
 
+use crate::plain::plain;
 use crate::run::{is_run, run};
 use crate::told::Status;
 use crate::view::view;
-use crate::view_words::view_cut;
+use crate::words::numbered;
 use flight_base::Source;
 use flight_value::{Memory, Text};
 use std::alloc::Global;
@@ -44,8 +45,11 @@ pub fn due_for<S: Source>(alloc: Global, words: &[String], source: &mut S) -> Re
     ensures read { result ≡ Err Undue.Read → IsCommand (texts words.now) × Rose (S.faults source.old) (S.faults source.new) }
     ensures unread { ¬ (IsCommand (texts words.now)) → source.new ≡ source.old }
 {
-    if let Some(cut) = view_cut(words) {
+    if let Some(cut) = numbered(words, "view", "--cut", 65_536) {
         return view(alloc, cut, source);
+    }
+    if let Some(fuel) = numbered(words, "plain", "--fuel", 1_000_000) {
+        return plain(alloc, fuel as u32, source);
     }
     if is_run(words) {
         return run(alloc, source);

@@ -14,10 +14,12 @@
 #![tactic(auto)]
 
 mod alone;
+mod bundle_line;
 mod due;
 mod line;
 mod model;
 mod one_row;
+mod plain;
 mod run;
 mod static_code;
 mod static_program;
@@ -28,7 +30,7 @@ mod static_word;
 mod tests;
 mod told;
 mod view;
-mod view_words;
+mod words;
 
 pub use alone::flight_alone;
 pub use told::{Status, Told};

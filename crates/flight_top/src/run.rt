@@ -14,7 +14,7 @@ use crate::static_code::Unbuilt;
 use crate::static_program::static_json;
 use crate::static_row::served_graph;
 use crate::told::Status;
-use crate::view_words::is_word;
+use crate::words::is_word;
 use flight_base::{ReadAll, Source, read_all};
 use flight_graph::canon_text;
 use flight_value::{Memory, Text};

@@ -43,7 +43,7 @@ fn view_input(alloc: Global, cut: usize, input: &[u8]) -> Result<Due, Undue>
 }
 
 /// What is owed with this status, where memory was not wanting for its text.
-fn told(status: Status, text: Result<Text, Memory>) -> Result<Due, Undue>
+pub fn told(status: Status, text: Result<Text, Memory>) -> Result<Due, Undue>
     ensures ok { IfOk result (λ due. (due.status ≡ status) × (text ≡ Ok due.text)) }
     ensures err { IfErr result (λ e. e ≡ Undue.Memory) }
 {
