@@ -1,0 +1,6 @@
+pub mod Names
+pub mod Literals
+pub mod Terms
+pub mod Scripts
+pub mod Imports
+pub mod Lawful
