@@ -1,11 +1,8 @@
 -- A program that is read, with a script that is read for it, is a valid ground.
-use Rattle.std.proofs.Common.{◌≡◌, ℕ, zero, suc, ◌<◌, List, [], ◌∷◌, ◌++◌, map, length, Some, refl, sym, ap, subst, ◌∙◌, arith, codes}
+use Rattle.std.proofs.Common.{◌≡◌, ℕ, List, [], ◌∷◌, ◌++◌, length, refl, sym, subst, arith, codes}
 use Rattle.std.specs.Prelude.{All}
 use Rattle.std.specs.List.{flat_map}
 use Rattle.std.proofs.lemmas.List.Elements.{All-cons}
-use Rattle.serde_json.specs.Data.{Data}
-use Rattle.serde_json.specs.Read.{of_json}
-use Rattle.serde_json.specs.Written.{compact_text}
 use Rattle.flight_syntax.specs.declared.program.Declared.{Declared}
 use Rattle.flight_syntax.specs.declared.program.Declared.TheVariants as declared
 use Rattle.flight_syntax.specs.declared.script.Script.{Script}
@@ -17,7 +14,7 @@ use Rattle.flight_syntax.specs.Grammar.{most_levels}
 use Rattle.flight_syntax.specs.Scope.{Means}
 use Rattle.flight_syntax.specs.Faults as faults
 use Rattle.flight_syntax.specs.Faults.{repeated, declaration_faults, each_faults}
-use Rattle.flight_syntax.specs.Derives.{said, bytes_of, SaidAs, IsProgram, Derives}
+use Rattle.flight_syntax.specs.Derives.{said, bytes_of, SaidAs, Derives}
 use Rattle.flight_syntax.specs.Import.{IsImport}
 use Rattle.flight_syntax.specs.Script.{IsScript}
 use Rattle.flight_syntax.proofs.Known.{nil_left, nil_right}
@@ -62,7 +59,7 @@ read_is_valid text script_text ds script p s form =
     let g : Ground = record { program = record { declared = ds }; script = script; root = App } in
     let behind = nil_right (repeated [] (faults.components p.all)) _ p.faultless in
     record {
-      each = each_lawful g p.all p.means p.all ds p.means (text_literals most_levels text p.tokens p.all p.are_tokens p.declares) (text_imports text p.tokens p.all p.are_tokens p.declares) (nil_right (repeated [] (faults.actions p.all)) _ behind) (names_there g script_text s);
+      each = each_lawful g p.all p.means p.all ds p.means (text_literals most_levels text p.tokens p.all p.are_tokens p.declares) (text_imports text p.tokens p.all p.declares) (nil_right (repeated [] (faults.actions p.all)) _ behind) (names_there g script_text s);
       one_component = subst NoneTwice (sym (components_same p.all p.all ds p.means)) (none_twice [] (faults.components p.all) (nil_left (repeated [] (faults.components p.all)) _ p.faultless));
       one_action = subst NoneTwice (sym (actions_same p.all p.all ds p.means)) (none_twice [] (faults.actions p.all) (nil_left (repeated [] (faults.actions p.all)) _ behind));
       has_app = server_of (codes "App") p.all p.all ds p.means p.app;

@@ -1,13 +1,12 @@
 -- What the words of a text spell has literals that are in range.
-use Rattle.std.proofs.Common.{◌≡◌, ℕ, zero, suc, ◌+◌, ◌-◌, ◌<◌, ◌≤◌, ◌⊎◌, inl, inr, Bool, true, false, List, [], ◌∷◌, ◌++◌, length, take, Option, Some, None, refl, sym, ap, subst, ◌∙◌, arith, pos, negsuc}
-use Rattle.std.specs.Prelude.{◌^◌, ◌≤ℤ◌, ℤ, T, All, slice_index, if◌then◌else◌}
+use Rattle.std.proofs.Common.{◌≡◌, ℕ, zero, suc, ◌-◌, ◌<◌, ◌≤◌, ◌⊎◌, inl, inr, Bool, true, false, List, [], ◌∷◌, ◌++◌, length, take, Option, Some, None, refl, sym, subst, arith, pos, negsuc}
+use Rattle.std.specs.Prelude.{◌^◌, ◌≤ℤ◌, T, slice_index, if◌then◌else◌}
 use Rattle.std.specs.Char.{is_ascii_uppercase}
 use Rattle.std.specs.List.{AllByRecursion}
 use Rattle.std.proofs.lemmas.List.{length-append}
 use Rattle.std.proofs.Math.Seq.{take-append_seam}
 use Rattle.std.proofs.Math.Dec.{leb}
 use Rattle.std.proofs.lemmas.Bool.Decides.{leb_tells}
-use Rattle.flight_value.specs.Graph.{IsSafe}
 use Rattle.flight_value.specs.declared.graph.Atom.{Atom}
 use Rattle.flight_value.specs.declared.graph.Atom.TheVariants as value
 use Rattle.flight_value.specs.declared.graph.Constant.TheVariants as constant
@@ -18,9 +17,9 @@ use Rattle.flight_syntax.specs.declared.word.Keyword.{Keyword}
 use Rattle.flight_syntax.specs.declared.word.Keyword.TheVariants as keys
 use Rattle.flight_syntax.specs.declared.word.Punctuator.{Punctuator}
 use Rattle.flight_syntax.specs.declared.word.Punctuator.TheVariants.{OpenBrace, CloseBrace, Less, Greater, LessSlash, SlashGreater}
-use Rattle.flight_syntax.specs.Pieces.{decimal, IsNumeral, IsBig, SpellsToken}
+use Rattle.flight_syntax.specs.Pieces.{decimal, IsBig, SpellsToken}
 use Rattle.flight_syntax.specs.Tokens.{AreTokens, IsTokenOf, spelling}
-use Rattle.flight_syntax.specs.Lexicon.{Word, key, lower, upper, number, big, literal, mark, deep, beyond, Placed, Phrase, ◌▸◌, one, sign, is_plain, is_date, constant_of, minus, big_minus, negative_of, date_of, symbol_of, taken_where, keyword_of, sign_of, name_word, mark_word, word_as, word_of, words_of}
+use Rattle.flight_syntax.specs.Lexicon.{Word, key, lower, upper, number, big, literal, Placed, Phrase, ◌▸◌, one, sign, is_plain, is_date, constant_of, minus, big_minus, negative_of, date_of, symbol_of, taken_where, keyword_of, sign_of, name_word, mark_word, word_as, words_of}
 use Rattle.flight_syntax.specs.Tree as tree
 use Rattle.flight_syntax.specs.Tree.{Tree, Trees, TreeProps, TreePairs, Declaration, IsElement}
 use Rattle.flight_syntax.specs.Grammar.{Constant, Bare, Beyond, Spells, Listed, MoreListed, Properties, MoreProperties, Entries, MoreEntries, Attributes, Children, DeclaresTo, DeclaresAllTo}

@@ -1,13 +1,12 @@
 -- Each name of a source or a stream that a program has is there in its script.
-use Rattle.std.proofs.Common.{◌≡◌, ℕ, zero, suc, ◌+◌, ◌<◌, ◌⊎◌, inl, inr, Bool, true, false, cond, nat_lt, List, [], ◌∷◌, ◌++◌, map, length, Option, Some, None, refl, sym, ap, subst, ◌∙◌, arith}
+use Rattle.std.proofs.Common.{◌≡◌, ℕ, suc, ◌+◌, ◌<◌, ◌⊎◌, inl, inr, Bool, true, false, cond, nat_lt, List, [], ◌∷◌, ◌++◌, length, Some, None, refl, sym, subst, ◌∙◌, arith}
 use Rattle.std.specs.Prelude.{is_some, not, ◌||◌, position}
-use Rattle.std.specs.List.{AllByRecursion, AllZip, list_any, flat_map, position_or_len}
+use Rattle.std.specs.List.{AllZip, list_any, flat_map, position_or_len}
 use Rattle.std.specs.Str.{bytes_eq}
 use Rattle.std.proofs.lemmas.Bool.{or_left, or_right}
 use Rattle.std.proofs.lemmas.Bool.Decides.{nat_tests}
 use Rattle.serde_json.specs.Data.{Data}
 use Rattle.flight_syntax.specs.declared.program.Declared.{Declared}
-use Rattle.flight_syntax.specs.declared.program.Declared.TheVariants as declared
 use Rattle.flight_syntax.proofs.Meanings.{bytes_is, bytes_same}
 use Rattle.flight_script.specs.Json.{Member, is_among}
 use Rattle.flight_script.specs.Sources.{IsSource, source_tests}
@@ -17,8 +16,7 @@ use Rattle.flight_script.specs.Program.{Named, source_named as of_source, stream
 use Rattle.flight_script.specs.Script.{names, sources_in, streams_in, tests, script_tests, IsScript, IsScriptOf}
 use Rattle.flight_script.specs.Tests.{Test, AllPass}
 use Rattle.flight_render.specs.declared.root.Ground.{Ground}
-use Rattle.flight_render.specs.Values.{source_named, stream_named}
-use Rattle.flight_bundle.proofs.Terms.{IsThere, AreThere}
+use Rattle.flight_bundle.proofs.Terms.{AreThere}
 
 -- ---- positions
 

@@ -1,5 +1,5 @@
 -- A term that a tree without faults means is lawful.
-use Rattle.std.proofs.Common.{◌≡◌, ℕ, zero, suc, ◌+◌, ◌<◌, Bool, true, false, List, [], ◌∷◌, ◌++◌, map, length, Option, Some, None, refl, sym, ap, subst, ◌∙◌, arith}
+use Rattle.std.proofs.Common.{◌≡◌, ℕ, zero, suc, ◌<◌, true, List, [], ◌∷◌, ◌++◌, length, Some, sym, subst, arith}
 use Rattle.std.specs.Prelude.{slice_get, is_some}
 use Rattle.std.proofs.lemmas.List.{length-append}
 use Rattle.flight_syntax.specs.Lexicon.{Placed}
@@ -8,7 +8,7 @@ use Rattle.flight_syntax.specs.Tree.{Tree, Trees, TreeProps, TreePairs, Declarat
 use Rattle.flight_syntax.specs.Term as term
 use Rattle.flight_syntax.specs.Term.{Term, Terms, Props, Pairs}
 use Rattle.flight_syntax.specs.Scope.{Means, MeansEach, MeansProps, MeansPairs}
-use Rattle.flight_syntax.specs.Faults.{is_named, components, servers, actions, property_names, is_tag, unless_known, repeated, beside_children, keys_of, faults, faults_each, faults_props, faults_pairs}
+use Rattle.flight_syntax.specs.Faults.{is_named, servers, actions, property_names, is_tag, unless_known, repeated, beside_children, keys_of, faults, faults_each, faults_props, faults_pairs}
 use Rattle.flight_syntax.proofs.Known.{nil_left, nil_right}
 use Rattle.flight_script.specs.Program.{Named, source_named as of_source, stream_named as of_stream, names_in, names_in_terms, names_in_props, names_in_pairs}
 use Rattle.flight_render.specs.declared.root.Ground.{Ground}
@@ -89,9 +89,13 @@ mutual
       let r1 = nil_right (unless_known (is_tag all n.bytes) n) _ e in
       let r2 = nil_right (repeated [] (property_names a)) _ r1 in
       let r3 = nil_right (beside_children c (property_names a)) _ r2 in
-      let r4 = nil_right (keys_of (is_named n.bytes (servers all)) (property_names a)) _ r3 in
-      (tag_at g all z n.bytes t m.0, once all scope a b m.1 (nil_left (repeated [] (property_names a)) _ r1), once_beside all scope a b c d m.1 m.2 (nil_left (beside_children c (property_names a)) _ r2),
-       props_lawful g all z outer scope size s a b l.0 (nil_left (faults_props all outer a) _ r4) m.1 (there_left g (names_in_props b) _ h), each_lawful g all z outer scope size s c d l.1 (nil_right (faults_props all outer a) _ r4) m.2 (there_right g (names_in_props b) _ h))
+      let r4 = nil_right (keys_of (is_named n.bytes (servers all)) (property_names a)) _ r3 in (
+        tag_at g all z n.bytes t m.0,
+        once all scope a b m.1 (nil_left (repeated [] (property_names a)) _ r1),
+        once_beside all scope a b c d m.1 m.2 (nil_left (beside_children c (property_names a)) _ r2),
+        props_lawful g all z outer scope size s a b l.0 (nil_left (faults_props all outer a) _ r4) m.1 (there_left g (names_in_props b) _ h),
+        each_lawful g all z outer scope size s c d l.1 (nil_right (faults_props all outer a) _ r4) m.2 (there_right g (names_in_props b) _ h),
+      )
   lawful g all z outer scope size s _ _ l e m h = absurd m
 
   each_lawful : (g : Ground) (all : List Declaration) → AreSaid all all g.program.declared → (outer : List Placed) (scope : List (List ℕ)) (size : ℕ) → length scope ≡ size → (a : Trees) (b : Terms) → HaveLiterals a → faults_each all outer a ≡ [] → MeansEach all scope a b → AreThere g (names_in_terms b) → AreLawful g size b
