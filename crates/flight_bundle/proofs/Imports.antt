@@ -1,5 +1,5 @@
 -- The JSON of a client component, as it is kept, is JSON of the language.
-use Rattle.std.proofs.Common.{◌≡◌, ℕ, List, [], ◌∷◌, ◌++◌, Some, refl, subst}
+use Rattle.std.proofs.Common.{◌≡◌, ℕ, List, [], ◌∷◌, Some, refl}
 use Rattle.serde_json.specs.Data.{Data}
 use Rattle.serde_json.specs.Read.{of_json}
 use Rattle.serde_json.specs.Written.{compact_text}
@@ -10,6 +10,7 @@ use Rattle.flight_syntax.specs.Tree.{Declaration}
 use Rattle.flight_syntax.specs.Grammar.{Declares, DeclaresAll}
 use Rattle.flight_syntax.specs.Import.{IsImport}
 use Rattle.flight_syntax.proofs.RealWords.{real_words}
+use Rattle.flight_syntax.proofs.Whole.{left, right}
 
 -- what a client component's JSON means is kept as JSON of the language
 abbrev pub HasImport : Declaration → Type 0
@@ -20,20 +21,6 @@ HasImport (tree.action_is named params body) = Unit {0}
 abbrev pub HaveImports : List Declaration → Type 0
 HaveImports [] = Unit {0}
 HaveImports (d ∷ all) = HasImport d × HaveImports all
-
-front_real : (y z : List Word) → AreReal (y ++ z) → AreReal y
-front_real [] z h = tt
-front_real (w ∷ y) z h = (h.0, front_real y z h.1)
-
-rest_real : (y z : List Word) → AreReal (y ++ z) → AreReal z
-rest_real [] z h = h
-rest_real (w ∷ y) z h = rest_real y z h.1
-
-left : {x : List Word} (y z : List Word) → x ≡ y ++ z → AreReal x → AreReal y
-left {x} y z e r = front_real y z (subst AreReal e r)
-
-right : {x : List Word} (y z : List Word) → x ≡ y ++ z → AreReal x → AreReal z
-right {x} y z e r = rest_real y z (subst AreReal e r)
 
 has_import : (d : Declaration) (x : List Word) → AreReal x → Declares d x → HasImport d
 has_import (tree.server n ps b) x r m = tt

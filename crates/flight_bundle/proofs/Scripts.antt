@@ -1,9 +1,9 @@
 -- Each name of a source or a stream that a program has is there in its script.
-use Rattle.std.proofs.Common.{◌≡◌, ℕ, suc, ◌+◌, ◌<◌, ◌⊎◌, inl, inr, Bool, true, false, cond, nat_lt, List, [], ◌∷◌, ◌++◌, length, Some, None, refl, sym, subst, ◌∙◌, arith}
+use Rattle.std.proofs.Common.{◌≡◌, ℕ, suc, ◌+◌, ◌<◌, inl, inr, Bool, true, false, cond, nat_lt, List, [], ◌∷◌, ◌++◌, length, Some, None, refl, sym, subst, ◌∙◌, arith}
 use Rattle.std.specs.Prelude.{is_some, not, ◌||◌, position}
 use Rattle.std.specs.List.{AllZip, list_any, flat_map, position_or_len}
 use Rattle.std.specs.Str.{bytes_eq}
-use Rattle.std.proofs.lemmas.Bool.{or_left, or_right}
+use Rattle.std.proofs.lemmas.Bool.{or_cases, or_left, or_right}
 use Rattle.std.proofs.lemmas.Bool.Decides.{nat_tests}
 use Rattle.serde_json.specs.Data.{Data}
 use Rattle.flight_syntax.specs.declared.program.Declared.{Declared}
@@ -19,10 +19,6 @@ use Rattle.flight_render.specs.declared.root.Ground.{Ground}
 use Rattle.flight_bundle.proofs.Terms.{AreThere}
 
 -- ---- positions
-
-or_parts : (a b : Bool) → (a || b) ≡ true → (a ≡ true) ⊎ (b ≡ true)
-or_parts true b e = inl refl
-or_parts false b e = inr e
 
 first_within : {A : Type 0} (p : A → Bool) (xs : List A) → list_any p xs ≡ true → position_or_len p xs < length xs
 first_within p [] e = absurd cc
@@ -47,7 +43,7 @@ same_name a b c e h = bytes_same b c (sym (bytes_is a b h) ∙ sym e)
 any_named : {S : Type 0} (R : Member → S → Type 0) (f : S → List ℕ) → ((m : Member) (s : S) → R m s → f s ≡ m.0) → (name : List ℕ) (ms : List Member) (ss : List S) → AllZip R ms ss → is_among (names ms) name ≡ true → list_any (λ s. bytes_eq name (f s)) ss ≡ true
 any_named R f same name [] ss z e = absurd cc
 any_named R f same name (m ∷ ms) [] z e = absurd z
-any_named R f same name (m ∷ ms) (s ∷ ss) z e = elim (or_parts (bytes_eq m.0 name) (is_among (names ms) name) e) [
+any_named R f same name (m ∷ ms) (s ∷ ss) z e = elim (or_cases (bytes_eq m.0 name) (is_among (names ms) name) e) [
   | inl h ↦ or_left (bytes_eq name (f s)) (list_any (λ s. bytes_eq name (f s)) ss) (same_name m.0 name (f s) (same m s z.0) h)
   | inr h ↦ or_right (bytes_eq name (f s)) (list_any (λ s. bytes_eq name (f s)) ss) (any_named R f same name ms ss z.1 h)
 ]
