@@ -6,3 +6,4 @@ pub mod Imports
 pub mod Lawful
 pub mod Passed
 pub mod Cuts
+pub mod OneParts
