@@ -7,3 +7,4 @@ pub mod Lawful
 pub mod Passed
 pub mod Cuts
 pub mod OneParts
+pub mod OneFault

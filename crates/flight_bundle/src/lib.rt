@@ -16,4 +16,4 @@ mod part;
 
 pub use bundle::{Bundle, read_bundle};
 pub use fault::BundleFault;
-pub use law::read_is_valid;
+pub use law::{one_bundle, read_is_valid};
