@@ -1,0 +1,17 @@
+-- What a fault says of a text.
+use Rattle.std.specs.Prelude.{ℕ, List}
+use Rattle.flight_syntax.specs.Faults.{unknown, twice, key_on_server}
+use Rattle.flight_grammar.specs.Outcome.{ComesTo, lexed, unexpected, too_deep, misnamed, no_app}
+use Rattle.flight_parse.specs.declared.fault.ParseFault.{ParseFault}
+use Rattle.flight_parse.specs.declared.fault.ParseFault.TheVariants as fault
+
+-- the fault is what the text comes to; want of memory says nothing of it
+abbrev pub IsParseFault : List ℕ → ParseFault → Type 0
+IsParseFault text (fault.Lex f) = ComesTo text (lexed f)
+IsParseFault text (fault.Unexpected place) = ComesTo text (unexpected place)
+IsParseFault text (fault.TooDeep place) = ComesTo text (too_deep place)
+IsParseFault text (fault.Unknown name place) = ComesTo text (misnamed (unknown (record { bytes = name; at = place })))
+IsParseFault text (fault.Twice name place) = ComesTo text (misnamed (twice (record { bytes = name; at = place })))
+IsParseFault text (fault.KeyOnServer place) = (key : List ℕ) × ComesTo text (misnamed (key_on_server (record { bytes = key; at = place })))
+IsParseFault text fault.NoApp = ComesTo text no_app
+IsParseFault text fault.Memory = Unit {0}
