@@ -1,12 +1,11 @@
 -- What the words of a text spell has literals that are in range.
 use Rattle.std.proofs.Common.{◌≡◌, ℕ, zero, suc, ◌-◌, ◌<◌, ◌≤◌, ◌⊎◌, inl, inr, Bool, true, false, List, [], ◌∷◌, ◌++◌, length, take, Option, Some, None, refl, sym, subst, arith, pos, negsuc}
-use Rattle.std.specs.Prelude.{◌^◌, ◌≤ℤ◌, T, slice_index, if◌then◌else◌}
+use Rattle.std.specs.Prelude.{◌^◌, ◌≤ℤ◌, slice_index, if◌then◌else◌}
 use Rattle.std.specs.Char.{is_ascii_uppercase}
 use Rattle.std.specs.List.{AllByRecursion}
 use Rattle.std.proofs.lemmas.List.{length-append}
 use Rattle.std.proofs.Math.Seq.{take-append_seam}
-use Rattle.std.proofs.Math.Dec.{leb}
-use Rattle.std.proofs.lemmas.Bool.Decides.{leb_tells}
+use lib.Dec.{le→leb}
 use Rattle.flight_value.specs.declared.graph.Atom.{Atom}
 use Rattle.flight_value.specs.declared.graph.Atom.TheVariants as value
 use Rattle.flight_value.specs.declared.graph.Constant.TheVariants as constant
@@ -81,17 +80,14 @@ some_is a b e = cc
 is_literal : (b a : Atom) → Some b ≡ Some a → IsLiteral b → IsLiteral a
 is_literal b a e h = subst IsLiteral (some_is b a e) h
 
-at_most : (n k : ℕ) → n ≤ k → T (leb n k)
-at_most n k l = let is : leb n k ≡ true = grind (arith, leb_tells) in subst T (sym is) tt
-
 above : (n k : ℕ) → negsuc k ≤ℤ pos n
 above n k = record { le = tt }
 
 below : (n k : ℕ) → n ≤ k → pos n ≤ℤ pos k
-below n k l = record { le = at_most n k l }
+below n k l = record { le = le→leb n k l }
 
 both_below : (n k : ℕ) → n ≤ k → negsuc k ≤ℤ negsuc n
-both_below n k l = record { le = at_most n k l }
+both_below n k l = record { le = le→leb n k l }
 
 -- so many bits hold a number on each side of 0
 pos_within : (n most : ℕ) → n < most → (negsuc (most - 2) ≤ℤ pos n) × (pos n ≤ℤ pos (most - 1))
