@@ -5,7 +5,7 @@ usage: conformance/run.py [PROGRAM] [FILE ..] [--jobs N] [--seconds N] [--show N
 
 PROGRAM is a command line, as 'node other-flight.mjs'; a case's words are put behind it. Without it the proved build of
 this repository is made by bin/build, and that one is run. A FILE ends in .jsonl and has one case a line, or in .rows and
-is the input of `view`, or in .bundle and is that of `run`; their output stands beside them in .txt. Without files,
+is the input of `view`, or in .bundle and is that of `plain`; their output stands beside them in .txt. Without files,
 those beside this script and those in examples/ are run. Each case of `view` is run with other values of --cut too.
 README.md here says more.
 
@@ -26,7 +26,7 @@ import sys
 HERE = pathlib.Path(__file__).resolve().parent
 TOP = HERE.parent
 # The command whose input an example is, and the status of an output that is no graph.
-EXAMPLES = {".rows": ("view", 3), ".bundle": ("run", 2)}
+EXAMPLES = {".rows": ("view", 3), ".bundle": ("plain", 2)}
 ENDINGS = (".jsonl", *EXAMPLES)
 # The lengths of pieces with which each case of `view` is run besides.
 CUTS = (1, 7, 65_536)
