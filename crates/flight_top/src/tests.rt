@@ -213,3 +213,66 @@ fn refuses_other_words(rt: HostRuntime) -> Result<(), Fail> {
     assert!(rt; refuses(&rt, ["view", "--cut", "7", "--cut=7"].as_slice())?);
     Ok(())
 }
+
+/// What `plain` with this fuel says of a bundle: its status and text.
+fn renders(
+    rt: &HostRuntime,
+    fuel: &str,
+    input: &str,
+    status: Status,
+    text: &str,
+) -> Result<bool, Fail> {
+    let plain = words(rt, ["plain", "--fuel", fuel].as_slice())?;
+    let bytes = Vec::from_slice(rt.alloc(), input.as_bytes())?;
+    let mut source = MemSource::new(bytes, 4096, Vec::new(rt.alloc()));
+    let mut sink = sink(rt, [].as_slice())?;
+    let told = flight_alone(rt.alloc(), plain.as_slice(), &mut source, &mut sink);
+    Ok(told.status == status && sink.held() == text.as_bytes())
+}
+
+#[test]
+fn renders_bundles(rt: HostRuntime) -> Result<(), Fail> {
+    for (fuel, bundle, status, text) in [
+        (
+            "1000000",
+            "server Left(o) = <b a={o} t={use u}/>;\nserver Right(o) = <i a={o} t={use v}/>;\nserver App() = let o = {k: 1} in [<Left o={o}/>, <Right o={o}/>];\n%%script\n{\"version\":1,\"sources\":{\"u\":{\"value\":\"x\",\"nodes\":[]},\"v\":{\"value\":\"y\",\"nodes\":[]}},\"settlers\":[[\"u\"],[\"v\"]]}\n",
+            Status::Done,
+            "root #0\n#0 array [#1,#4]\n#1 element \"b\" null #2\n#2 object {\"a\":#3,\"t\":\"x\"}\n#3 object {\"k\":1}\n#4 element \"i\" null #5\n#5 object {\"a\":#3,\"t\":\"y\"}\n",
+        ),
+        (
+            "1000000",
+            "server Part() = use s; server App() = [<Part/>, promise s];\n%%script\n{\"version\":1,\"sources\":{\"s\":{\"reject\":\"gone\"}},\"settlers\":[[\"s\"]]}\n",
+            Status::Done,
+            "root #0\n#0 array [failed \"gone\",#1]\n#1 promise failed \"gone\"\n",
+        ),
+        (
+            "1000000",
+            "server App() = use s;\n%%script\n{\"version\":1,\"sources\":{\"s\":{\"value\":5,\"nodes\":[]}}}\n",
+            Status::Done,
+            "root pending\n",
+        ),
+        (
+            "1000000",
+            "server App() = stream f;\n%%script\n{\"version\":1,\"sources\":{\"a\":{\"value\":1,\"nodes\":[]},\"b\":{\"reject\":\"no\"}},\"streams\":{\"f\":{\"kind\":\"iterable\",\"items\":[\"a\",\"b\"]}},\"settlers\":[[\"a\",\"b\"]]}\n",
+            Status::Done,
+            "root #0\n#0 iterable [1] failed \"no\"\n",
+        ),
+        ("1000", "server App() = <App/>;", Status::Done, "root failed \"depth\"\n"),
+        ("999", "server App() = <App/>;", Status::Fuel, "fuel\n"),
+        (
+            "1",
+            "server App() = x;",
+            Status::Bundle,
+            "program: unknown \"x\" at 15\n",
+        ),
+        (
+            "1",
+            "server App() = 1;\n%%script\n{",
+            Status::Bundle,
+            "script: bad json\n",
+        ),
+    ] {
+        assert!(rt; renders(&rt, fuel, bundle, status, text)?);
+    }
+    Ok(())
+}
