@@ -1,0 +1,11 @@
+//! Sequential rendering: the graph of a program over its data, and what it costs.
+//!
+//! One walk does both. It has no tasks, no retries and no rows, and so it is the yardstick for a server that
+//! renders in parts.
+#![tactic(auto)]
+
+mod sequential;
+mod total;
+
+pub use sequential::{cost, plain, rendered};
+pub use total::{Cost, Rendered};
