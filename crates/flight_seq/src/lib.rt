@@ -4,8 +4,15 @@
 //! renders in parts.
 #![tactic(auto)]
 
+mod copy;
+mod given;
+mod held;
+mod known;
+mod node;
 mod sequential;
+mod source;
 mod total;
+mod walk;
 
 pub use sequential::{cost, plain, rendered};
 pub use total::{Cost, Rendered};
