@@ -11,7 +11,9 @@ use Rattle.flight_render.specs.declared.root.Ground.{Ground}
 use Rattle.flight_render.specs.Run.{gave, threw, waits}
 use Rattle.flight_render.specs.Values.{source_end}
 use Rattle.flight_render.specs.Jobs.{Value, shown, of_job, known}
-use Rattle.flight_render.specs.Plain.{Flowed}
+use Rattle.flight_render.specs.Plain.{Flowed, state_of, flow_slots}
+use Rattle.flight_value.specs.declared.graph.Flow.{Flow}
+use Rattle.flight_value.specs.Store.{Shape, stream}
 use Rattle.flight_seq.specs.declared.source.Arrived.{Arrived}
 use Rattle.flight_seq.specs.declared.source.Arrived.TheVariants as arrived
 
@@ -33,3 +35,7 @@ IsArrived g settled source arrived.Waits = source_end g settled source ≡ waits
 -- items before those of a stream
 abbrev pub behind : List Value → Flowed Value → Flowed Value
 behind front f = record { items = front ++ f.items; end = f.end }
+
+-- a stream that has come so far
+abbrev pub stream_shape : Flow → Flowed Value → Shape Value
+stream_shape flow f = record { label = stream flow (state_of f.end); slots = flow_slots f }

@@ -5,11 +5,13 @@
 #![tactic(auto)]
 
 mod copy;
+mod flow;
 mod given;
 mod held;
 mod known;
 mod node;
 mod sequential;
+mod shape;
 mod source;
 mod total;
 mod walk;
