@@ -1,2 +1,5 @@
+pub mod Results
 pub mod Keys
 pub mod Flows
+pub mod Walks
+pub mod Shapes

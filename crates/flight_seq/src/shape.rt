@@ -1,4 +1,5 @@
-ghost use Rattle.std.specs.Prelude.{◌≡◌, ◌∷◌, [], IfOk, map, length, Some, ℕ};
+ghost use Rattle.std.specs.Prelude.{◌≡◌, ◌∷◌, [], IfOk, map, length, Some, ℕ, slice_get};
+ghost use Rattle.std.specs.Option.{option_copied};
 ghost use Rattle.flight_render.specs.Plain.{NodeIs, label_of_kind, made_shape, action_name};
 ghost use Rattle.flight_render.specs.Jobs.{shown};
 ghost use Rattle.flight_seq.specs.Held.{label_for, shape_for, value_held};
@@ -11,7 +12,7 @@ use crate::held::{Held, Label, Shape};
 use crate::source::source_node;
 use crate::walk::Walk;
 use flight_render::Ground;
-use flight_syntax::{Declared, Seen};
+use flight_syntax::{Declared, Flowing, Seen};
 use flight_value::{Atom, Key, List, Made, MadeKind, Memory, Text, Tree};
 use std::alloc::Global;
 
@@ -37,7 +38,7 @@ impl Walk {
                 None => Err(Memory),
             },
             Key::Settled { source } => shape_with(alloc, Label::Promise, Held::Outcome { source: *source }),
-            Key::Stream { stream } => match ground.script.streams.as_slice().get(*stream as usize) {
+            Key::Stream { stream } => match stream_at(ground, *stream) {
                 Some(flowing) => flow_of(alloc, ground, seen, flowing),
                 None => Err(Memory),
             },
@@ -49,6 +50,13 @@ impl Walk {
             Key::Client { .. } | Key::Symbol(_) | Key::Server(_) => Err(Memory),
         }
     }
+}
+
+/// A stream of the script.
+fn stream_at(ground: &Ground, stream: u32) -> Option<&Flowing>
+    ensures { option_copied result ≡ slice_get ground.now.script.streams stream }
+{
+    ground.script.streams.as_slice().get(stream as usize)
 }
 
 /// A node of one slot.
