@@ -6,16 +6,19 @@ use Rattle.std.specs.Cmp.Lexicographic.{pointwise}
 use Rattle.flight_value.specs.Store as target
 use Rattle.flight_value.specs.declared.key.Key.{Key}
 use Rattle.flight_value.specs.declared.made.Made.{Made}
+use Rattle.flight_value.specs.declared.made.Tables.{Tables}
 use Rattle.flight_value.specs.declared.made.Tree.{Tree}
 use Rattle.flight_value.specs.declared.name.Name.{Name}
 use Rattle.flight_render.specs.declared.root.Ground.{Ground}
 use Rattle.flight_render.specs.declared.job.What.{What}
+use Rattle.flight_render.specs.Run as run
 use Rattle.flight_render.specs.Run.{waits, Run}
-use Rattle.flight_render.specs.Bodies.{body_at, tables_at}
-use Rattle.flight_render.specs.Jobs.{Job, Value, job_of, IsTarget}
+use Rattle.flight_render.specs.Bodies.{inner, body_at, tables_at}
+use Rattle.flight_render.specs.Jobs.{Job, the_root, element, Value, job_of, comes, IsTarget}
 use Rattle.flight_render.specs.Costs.{In, Distinct, Reached, address_of, total_of}
 use Rattle.flight_render.specs.Attempt.{job_for, run_for}
 use Rattle.flight_render.specs.Valid.{IsWhat}
+use Rattle.flight_eval.specs.declared.body.Body.{Body}
 use Rattle.flight_eval.specs.Attempted.{end_of, tables_of}
 use Rattle.flight_seq.specs.declared.known.Known.{Known}
 use Rattle.flight_seq.specs.declared.known.Known.TheVariants as known
@@ -32,6 +35,9 @@ same_address = pointwise nat_eq
 abbrev pub known_at : List Entry → List ℕ → Option Known
 known_at entries address = lookup (same_address address) entries
 
+abbrev pub IsKnownAt : List Entry → List ℕ → Type 0
+IsKnownAt entries address = (k : Known) × (known_at entries address ≡ Some k)
+
 abbrev pub known_made : Known → List Made
 known_made (known.Finished made inside gave cost) = made
 known_made (known.Waits source) = []
@@ -39,6 +45,10 @@ known_made (known.Waits source) = []
 -- the node of a name
 abbrev pub made_at : List Entry → Name → Option Made
 made_at entries n = option_and_then (λ k. slice_get (known_made k) n.serial) (known_at entries n.render)
+
+abbrev pub known_cost : Known → ℕ
+known_cost (known.Finished made inside gave cost) = cost
+known_cost (known.Waits source) = 0
 
 -- the addresses and costs of the bodies that finished
 abbrev pub counted : List Entry → List (List ℕ × ℕ)
@@ -84,6 +94,12 @@ pub record IsWalk (g : Ground) (settled : List Bool) (fuel : ℕ) (w : Walk) : T
   pub keys : AllByRecursion (IsMet g settled) w.keys.keys
   pub apart : Distinct w.keys.keys
 
+-- a job whose body is known, or that has none
+abbrev pub IsMetJob : List Entry → Job → Type 0
+IsMetJob entries the_root = IsKnownAt entries []
+IsMetJob entries (element n) = IsKnownAt entries (inner n)
+IsMetJob entries j = Unit {0}
+
 -- ---- what is added
 
 -- the key is there, the last where it is new
@@ -108,3 +124,20 @@ pub record IsAsked (g : Ground) (settled : List Bool) (address : List ℕ) (what
   pub value : Value
   pub met : Reached g settled value
   pub is_job : job_of g settled value ≡ Some (job_for g what)
+
+-- the body of an attempt, with the tables of the server elements that it made
+abbrev pub IsFinished : Body → Known → Type 0
+IsFinished b k = (inside : Tables) × (inside.made ≡ b.tables.made ++ b.made ∷ []) × (k ≡ known.Finished b.made inside b.gave b.cost)
+
+-- the walk has gone on, and knows the body at the address
+pub record Reaches (g : Ground) (settled : List Bool) (fuel : ℕ) (address : List ℕ) (old new : Walk) : Type 0 where
+  pub walk : IsWalk g settled fuel new
+  pub goes_on : GoesOn old new
+  pub knows : IsKnownAt new.bodies.entries address
+
+-- the walk has gone on, and the task's job comes to the end, its body being met
+pub record Ends (g : Ground) (settled : List Bool) (fuel : ℕ) (what : What) (end : run.End) (old new : Walk) : Type 0 where
+  pub walk : IsWalk g settled fuel new
+  pub goes_on : GoesOn old new
+  pub comes_to : comes g settled (job_for g what) ≡ Some end
+  pub met : IsMetJob new.bodies.entries (job_for g what)

@@ -4,6 +4,7 @@
 //! renders in parts.
 #![tactic(auto)]
 
+mod chain;
 mod copy;
 mod flow;
 mod given;
@@ -13,6 +14,7 @@ mod node;
 mod sequential;
 mod shape;
 mod source;
+mod task;
 mod total;
 mod walk;
 
