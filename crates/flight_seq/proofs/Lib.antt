@@ -5,3 +5,5 @@ pub mod Walks
 pub mod Shapes
 pub mod Pushing
 pub mod Tasks
+pub mod Asking
+pub mod Chains
