@@ -7,3 +7,4 @@ pub mod Pushing
 pub mod Tasks
 pub mod Asking
 pub mod Chains
+pub mod Drawings

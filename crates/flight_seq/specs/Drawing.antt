@@ -8,7 +8,11 @@ use Rattle.flight_value.specs.Store.{Shape, label_of}
 use Rattle.flight_render.specs.declared.root.Ground.{Ground}
 use Rattle.flight_render.specs.Jobs.{Value}
 use Rattle.flight_render.specs.Plain.{NodeIs}
-use Rattle.flight_seq.specs.Walk.{Entry}
+use Rattle.flight_value.specs.declared.graph.Slot.{Slot}
+use Rattle.flight_seq.specs.declared.held.Shape as held
+use Rattle.flight_seq.specs.declared.walk.Walk.{Walk}
+use Rattle.flight_seq.specs.Held.{shape_for}
+use Rattle.flight_seq.specs.Walk.{Entry, IsWalk, GoesOn}
 use Rattle.flight_seq.specs.Chain.{Draws}
 
 -- ---- nodes
@@ -29,3 +33,30 @@ DrawEach g settled entries keys nodes = (n : ℕ) (node : Node) → slice_get no
 abbrev pub numbered_from : ℕ → List Key → List (ℕ × Key)
 numbered_from i [] = []
 numbered_from i (k ∷ keys) = (i, k) ∷ numbered_from (suc i) keys
+
+-- ---- the walk over the nodes
+
+-- the shape is what stands at the key of the number
+abbrev pub IsKept : Ground → List Bool → Walk → ℕ → held.Shape → Type 0
+IsKept g settled w n s = (k : Key) × (slice_get w.keys.keys n ≡ Some k) × NodeIs g settled k (shape_for s)
+
+-- slots have those for which the values stand
+pub record AreFollowed (g : Ground) (settled : List Bool) (fuel : ℕ) (slots : List Slot) (vs : List Value) (old new : Walk) : Type 0 where
+  pub walk : IsWalk g settled fuel new
+  pub goes_on : GoesOn old new
+  pub draws : AllZip (Draws g settled new.bodies.entries new.keys.keys) slots vs
+
+-- a node draws a shape
+pub record IsNodeDrawn (g : Ground) (settled : List Bool) (fuel : ℕ) (shape : Shape Value) (node : Node) (old new : Walk) : Type 0 where
+  pub walk : IsWalk g settled fuel new
+  pub goes_on : GoesOn old new
+  pub label : label_of node ≡ shape.label
+  pub slots : AllZip (Draws g settled new.bodies.entries new.keys.keys) (slots_of node) shape.slots
+  pub few : length (slots_of node) < 2 ^ 32
+
+-- each key has its node
+pub record AreDrawn (g : Ground) (settled : List Bool) (fuel : ℕ) (nodes : List Node) (old new : Walk) : Type 0 where
+  pub walk : IsWalk g settled fuel new
+  pub goes_on : GoesOn old new
+  pub each : DrawEach g settled new.bodies.entries new.keys.keys nodes
+  pub all : length new.keys.keys ≤ length nodes

@@ -6,6 +6,7 @@
 
 mod chain;
 mod copy;
+mod draw;
 mod flow;
 mod given;
 mod held;

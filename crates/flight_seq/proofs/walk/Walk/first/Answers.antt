@@ -1,6 +1,8 @@
 use Rattle.std.proofs.Common.{◌≡◌, ◌∙◌, refl, sym, ap, subst, IfOk, MatchOption, Some}
 use Rattle.flight_value.specs.declared.graph.Atom.TheVariants as atom
 use Rattle.flight_value.specs.declared.made.Tree.TheVariants as tree
+use Rattle.flight_syntax.specs.declared.script.Seen.{Seen}
+use Rattle.flight_render.specs.Values.{source_end}
 use Rattle.flight_render.specs.Costs.{IsOver}
 use Rattle.flight_render.specs.Jobs.{the_root, outcome, known, blank, of_job, shown}
 use Rattle.flight_seq.specs.declared.held.End.TheVariants as end
@@ -34,7 +36,7 @@ returns-in_ok-outcome-in-Outcome c =
     let w = c.args.self.now in
     let e = c.in_ok-outcome-in-Outcome.field-0 in
     subst (λ h. Begins g s c.args.fuel (value_held h) e w w) (sym c.in-Outcome.is)
-    (begins_job g s c.args.fuel (outcome c.in-Outcome.source) e w c.requires.walk (comes_source g s c.in-Outcome.source ∙ ap Some (sym c.in_ok-outcome-in-Outcome.ensures)) tt)
+    (begins_job g s c.args.fuel (outcome c.in-Outcome.source) e w c.requires.walk (comes_source g s c.in-Outcome.source ∙ ap Some (sym (c.in_ok-outcome-in-Outcome.ensures ∙ ap (λ (x : Seen). source_end g x.settled c.in-Outcome.source) c.get.ensures))) tt)
 
 pub returns-in_ok-argument-in-Known : goal.returns-in_ok-argument-in-Known
 returns-in_ok-argument-in-Known c =
