@@ -1,0 +1,10 @@
+pub mod Results
+pub mod Keys
+pub mod Flows
+pub mod Walks
+pub mod Shapes
+pub mod Pushing
+pub mod Tasks
+pub mod Asking
+pub mod Chains
+pub mod Drawings

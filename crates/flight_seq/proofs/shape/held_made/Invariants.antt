@@ -1,0 +1,7 @@
+use Rattle.std.proofs.Common.{◌≡◌, map, take}
+use Rattle.flight_render.specs.Jobs.{shown}
+use Rattle.flight_seq.specs.Held.{value_held}
+use Rattle.flight_seq.proofs.shape.held_made.Given as goal
+
+abbrev pub invariant-loop-slot : goal.invariant-loop-slot
+invariant-loop-slot l = map value_held l.held.items ≡ map shown (take l.slot-index l.slots)
