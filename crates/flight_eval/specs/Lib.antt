@@ -1,0 +1,5 @@
+pub mod Attempted
+pub mod Gives
+pub mod Object
+pub mod Productions
+pub mod Seen
