@@ -12,6 +12,7 @@ mod object;
 mod operators;
 mod parts;
 mod sorted;
+mod start;
 mod stop;
 mod values;
 mod work;

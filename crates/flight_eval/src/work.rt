@@ -19,6 +19,7 @@ pub struct Work {
 
 /// Where a body is evaluated: over what, with which sources settled, at which address, with which tables, and up
 /// to which cost.
+#[derive(Clone, Copy)]
 pub struct Place<'a> {
     pub alloc: Global,
     pub over: &'a Ground,
