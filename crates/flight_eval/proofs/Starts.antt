@@ -11,6 +11,10 @@ use Rattle.flight_render.specs.Operators.{type_digest}
 use Rattle.flight_render.specs.Body.{component_start, root_start, run_start, body, root_body, fresh}
 use Rattle.flight_render.specs.Bodies.{inner, element_of, next_body}
 use Rattle.flight_render.specs.Attempt.{element_run}
+use Rattle.flight_render.specs.Valid.{IsWhat}
+use Rattle.flight_render.specs.declared.job.What.{What}
+use Rattle.flight_render.specs.declared.job.What.TheVariants as what
+use Rattle.flight_eval.specs.Address.{IsAddressOf}
 use Rattle.flight_eval.specs.declared.stop.Stop.{Stop}
 use Rattle.flight_eval.specs.Gives.{Gives}
 
@@ -29,3 +33,13 @@ element_given fuel g settled n address tables component props r m here found h =
     subst (λ z. Gives (λ t. t) fuel (unwrap_or (next_body g settled tables (inner n) z) (fail type_digest fresh)) r m) (sym found)
     (body_given fuel g settled (inner n) tables component props r m
     (subst (λ z. Gives (λ t. t) fuel (run_start (record { over = g; settled = settled; address = z; tables = tables }) (component_start g tables (slice_get g.program.declared component) props)) r m) here h))
+
+-- ---- addresses
+
+pub address_of : (g : Ground) (address : List ℕ) (w : What) → IsWhat g address w → IsAddressOf w address
+address_of g address what.Root h = h
+address_of g address (what.Element n tables) h = h.0
+address_of g address (what.Promise source) h = tt
+address_of g address (what.Known slot) h = tt
+address_of g address (what.Item stream index) h = tt
+address_of g address (what.Last stream) h = tt

@@ -1,3 +1,4 @@
+pub mod Address
 pub mod Attempted
 pub mod Gives
 pub mod Object

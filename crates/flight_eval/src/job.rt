@@ -1,9 +1,10 @@
 ghost use Rattle.std.specs.Prelude.{◌≡◌, ◌≤◌, ◌∷◌, [], IfOk, slice_get};
 ghost use Rattle.flight_render.specs.Run.{ends};
-ghost use Rattle.flight_render.specs.Valid.{IsValidGround, Belongs, IsWhat};
+ghost use Rattle.flight_render.specs.Valid.{IsValidGround, Belongs};
 ghost use Rattle.flight_render.specs.Jobs.{argument_in};
 ghost use Rattle.flight_render.specs.Body.{fresh};
 ghost use Rattle.flight_render.specs.Attempt.{item_job, end_job, alone_end, run_for};
+ghost use Rattle.flight_eval.specs.Address.{IsAddressOf};
 ghost use Rattle.flight_eval.specs.Gives.{work_of, Gives};
 ghost use Rattle.flight_eval.specs.Attempted.{IsAttempt, tables_of};
 ghost use Rattle.flight_eval.specs.declared.body.Attempt.TheVariants.{Finished as finished_attempt};
@@ -60,7 +61,7 @@ fn last_end(place: &Place, stream: u32, work: &Work) -> Result<Tree, Stop>
 
 /// Does the own body of a job.
 fn run(place: &Place, what: &What, work: &mut Work) -> Result<Tree, Stop>
-    requires belongs { IsWhat place.now.over.now place.now.address.now what.now }
+    requires address { IsAddressOf what.now place.now.address.now }
     requires tables { place.now.tables.now.made ≡ tables_of what.now }
     requires fresh { work_of work.old ≡ fresh }
     ensures { Gives (λ t. t) place.now.fuel (run_for place.now.over.now place.now.seen.now.settled what.now) result (work_of work.new) }
@@ -106,11 +107,9 @@ fn finished(alloc: Global, job: &Job, tables: Shared<Tables>, gave: Gave, work: 
     Ok(Attempt::Finished { bodies })
 }
 
-/// One attempt at a job, with the sources settled that the job has seen (React 19.0, `retryTask` of
-/// ReactFlightServer). A job that is no component's body makes no nodes and costs nothing.
-pub fn attempt(alloc: Global, ground: &Ground, job: &Job, fuel: u32) -> Result<Attempt, Memory>
-    requires valid { IsValidGround ground.now }
-    requires belongs { Belongs ground.now job.now }
+/// An attempt at a job at its address.
+pub fn attempted(alloc: Global, ground: &Ground, job: &Job, fuel: u32) -> Result<Attempt, Memory>
+    requires address { IsAddressOf job.now.what job.now.address }
     ensures { IfOk result (IsAttempt ground.now job.now fuel) }
 {
     let tables = tables_of(alloc, &job.what)?;
@@ -133,4 +132,15 @@ pub fn attempt(alloc: Global, ground: &Ground, job: &Job, fuel: u32) -> Result<A
         Err(Stop::OverFuel) => Ok(Attempt::OverFuel),
         Err(Stop::Memory) => Err(Memory),
     }
+}
+
+/// One attempt at a job, with the sources settled that the job has seen (React 19.0, `retryTask` of
+/// ReactFlightServer). A job that is no component's body makes no nodes and costs nothing.
+#[tactic(auto, using(crate::proofs::Starts::address_of))]
+pub fn attempt(alloc: Global, ground: &Ground, job: &Job, fuel: u32) -> Result<Attempt, Memory>
+    requires valid { IsValidGround ground.now }
+    requires belongs { Belongs ground.now job.now }
+    ensures { IfOk result (IsAttempt ground.now job.now fuel) }
+{
+    attempted(alloc, ground, job, fuel)
 }

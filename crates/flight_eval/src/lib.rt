@@ -14,6 +14,8 @@ mod parts;
 mod sorted;
 mod start;
 mod stop;
+#[cfg(test)]
+mod tests;
 mod values;
 mod work;
 
