@@ -1,0 +1,5 @@
+pub mod Insertion
+pub mod Own
+pub mod Starts
+pub mod Steps
+pub mod Stopped

@@ -1,1 +1,6 @@
+pub mod Address
 pub mod Attempted
+pub mod Gives
+pub mod Object
+pub mod Productions
+pub mod Seen
