@@ -1,28 +1,24 @@
 -- The tasks of the root and of server elements.
-use Rattle.std.proofs.Common.{◌≡◌, ℕ, Bool, true, false, List, [], ◌∷◌, ◌++◌, Option, Some, None, refl, sym, ◌∙◌, ap, subst, true≢false, cond}
+use Rattle.std.proofs.Common.{◌≡◌, ℕ, Bool, true, List, [], ◌∷◌, ◌++◌, Option, Some, None, refl, sym, ◌∙◌, ap, subst, true≢false}
 use Rattle.std.specs.Prelude.{is_some, if◌then◌else◌, unwrap_or}
-use Rattle.std.proofs.lemmas.Option.{none-some, same_Some}
 use Rattle.flight_value.specs.declared.made.Made.{Made}
 use Rattle.flight_value.specs.declared.made.Tables.{Tables}
 use Rattle.flight_value.specs.declared.made.Tree.{Tree}
 use Rattle.flight_value.specs.declared.made.Tree.TheVariants as tree
 use Rattle.flight_value.specs.declared.name.Name.{Name}
 use Rattle.flight_render.specs.declared.root.Ground.{Ground}
-use Rattle.flight_render.specs.declared.job.What.{What}
 use Rattle.flight_render.specs.declared.job.What.TheVariants as what
-use Rattle.flight_render.specs.Run.{Run, fail}
+use Rattle.flight_render.specs.Run.{fail}
 use Rattle.flight_render.specs.Values.{made_in}
 use Rattle.flight_render.specs.Operators.{type_digest}
 use Rattle.flight_render.specs.Body.{fresh, root_body}
 use Rattle.flight_render.specs.Bodies.{inner, element_of, next_body, body_at, node_at, tables_at, tables_for, tables_with, finished, is_finished}
-use Rattle.flight_render.specs.Jobs.{the_root, element, shown, of_job, is_server, job_of}
+use Rattle.flight_render.specs.Jobs.{the_root, element, shown, of_job, is_server}
 use Rattle.flight_render.specs.Costs.{Reached, at_root}
-use Rattle.flight_render.specs.Attempt.{run_for, element_run}
 use Rattle.flight_render.specs.Valid.{IsValidGround}
 use Rattle.flight_render.proofs.Larger.{finished-is}
 use Rattle.flight_render.proofs.Falling.{body_with-tables, tables_of-element}
 use Rattle.flight_render.proofs.There.{tables_belong}
-use Rattle.flight_eval.specs.declared.body.Gave.{Gave}
 use Rattle.flight_seq.specs.declared.known.Known.TheVariants as known
 use Rattle.flight_seq.specs.declared.walk.Walk.{Walk}
 use Rattle.flight_seq.specs.Walk.{IsEntry, IsWalk, IsAsked}

@@ -1,16 +1,13 @@
 -- Nodes drawn one after another.
-use Rattle.std.proofs.Common.{◌≡◌, ℕ, zero, suc, ◌+◌, ◌<◌, ◌≤◌, ◌^◌, Bool, List, [], ◌∷◌, ◌++◌, map, length, Option, Some, None, slice_get, refl, sym, ◌∙◌, ap, subst, inl, inr, ◌⊎◌, arith}
+use Rattle.std.proofs.Common.{◌≡◌, ℕ, zero, suc, ◌≤◌, Bool, List, [], ◌∷◌, ◌++◌, map, length, Some, None, slice_get, refl, sym, ◌∙◌, ap, subst, inl, inr, ◌⊎◌, arith}
 use Rattle.std.specs.List.{AllByRecursion, AllZip}
 use Rattle.std.proofs.lemmas.Option.{none-some, same_Some}
 use Rattle.flight_value.specs.declared.graph.Slot.{Slot}
 use Rattle.flight_value.specs.declared.graph.Node.{Node}
 use Rattle.flight_value.specs.declared.key.Key.{Key}
 use Rattle.flight_value.specs.Graph.{slots_of}
-use Rattle.flight_value.specs.Store as store
-use Rattle.flight_value.specs.Store.{Shape}
 use Rattle.flight_render.specs.declared.root.Ground.{Ground}
 use Rattle.flight_render.specs.Jobs.{Value}
-use Rattle.flight_render.specs.Plain.{NodeIs}
 use Rattle.flight_render.specs.Costs.{In, Reached, in_slot}
 use Rattle.flight_render.proofs.Sourced.{each_at}
 use Rattle.flight_seq.specs.declared.held.Held.{Held}
@@ -20,7 +17,7 @@ use Rattle.flight_seq.specs.Held.{value_held, shape_for}
 use Rattle.flight_seq.specs.Walk.{IsMet, IsWalk, GoesOn}
 use Rattle.flight_seq.specs.Chain.{Draws, Follows}
 use Rattle.flight_seq.specs.Drawing.{DrawsNode, DrawEach, IsKept, IsNodeDrawn}
-use Rattle.flight_seq.proofs.Chains.{goes_on, draws_on, key_on, append_more}
+use Rattle.flight_seq.proofs.Chains.{draws_on, key_on, append_more}
 
 -- ---- lists
 
@@ -98,8 +95,8 @@ each_push g s fuel mid new nodes more shape x each kept drawn e n y is =
     elim (push_get nodes x n y (sym (ap (λ xs. slice_get xs n) e) ∙ is)) [
       | inl h ↦ let d = each n y h in (d.0, key_on mid new n d.0 drawn.goes_on d.1, node_on g s mid new d.0 y drawn.goes_on d.2)
       | inr p ↦ (
-          kept.0,
-          ap (slice_get new.keys.keys) p.0 ∙ key_on mid new (length nodes) kept.0 drawn.goes_on kept.1,
-          subst (DrawsNode g s new.bodies.entries new.keys.keys kept.0) p.1 (record { shape = shape_for shape; is_shape = kept.2; label = drawn.label; slots = drawn.slots; few = drawn.few })
-        )
+        kept.0,
+        ap (slice_get new.keys.keys) p.0 ∙ key_on mid new (length nodes) kept.0 drawn.goes_on kept.1,
+        subst (DrawsNode g s new.bodies.entries new.keys.keys kept.0) p.1 (record { shape = shape_for shape; is_shape = kept.2; label = drawn.label; slots = drawn.slots; few = drawn.few }),
+      )
     ]

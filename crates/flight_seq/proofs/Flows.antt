@@ -2,15 +2,13 @@
 use Rattle.std.proofs.Common.{◌≡◌, ℕ, suc, ◌+◌, ◌<◌, Bool, List, [], ◌∷◌, ◌++◌, map, length, get_or, drop, drop-cons, Option, Some, None, refl, sym, ◌∙◌, ap, append_assoc, append-nil, arith, Result, Ok, Err, IfOk}
 use Rattle.std.proofs.lemmas.List.{map-append}
 use Rattle.flight_value.specs.declared.graph.Flow.{Flow}
-use Rattle.flight_value.specs.declared.made.Tree.{Tree}
 use Rattle.flight_value.specs.Store as store
 use Rattle.flight_render.specs.declared.root.Ground.{Ground}
-use Rattle.flight_render.specs.Run.{gave, threw, waits, End}
+use Rattle.flight_render.specs.Run.{gave, End}
 use Rattle.flight_render.specs.Values.{source_end, undefined}
 use Rattle.flight_render.specs.Jobs.{comes, outcome, blank, of_job, Value}
 use Rattle.flight_render.specs.Plain.{Flowed, closed, broken, going, flow, flow_last, flow_item, last_job}
 use Rattle.flight_seq.specs.declared.held.Held.{Held}
-use Rattle.flight_seq.specs.declared.held.Held.TheVariants as held
 use Rattle.flight_seq.specs.declared.held.Label.TheVariants as label
 use Rattle.flight_seq.specs.declared.held.FlowState.TheVariants as state
 use Rattle.flight_seq.specs.declared.held.Shape.{Shape}

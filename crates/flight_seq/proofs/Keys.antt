@@ -1,5 +1,5 @@
 -- Keys under numbers.
-use Rattle.std.proofs.Common.{rules, true, false, Bool, ◌||◌, cond, ◌≡◌, ◌∙◌, ap, sym, refl, inl, inr, ◌⊎◌, List, [], ◌∷◌, ◌++◌, true≢false, if◌then◌else◌}
+use Rattle.std.proofs.Common.{rules, true, false, Bool, ◌||◌, ◌≡◌, ◌∙◌, ap, sym, refl, inl, inr, List, [], ◌∷◌, ◌++◌, true≢false, if◌then◌else◌}
 use Rattle.std.specs.List.{list_any}
 use Rattle.flight_value.specs.declared.key.Key.{Key}
 use Rattle.flight_value.specs.contracts.key.KeyPartialEq.TheImpl.{eq-value}

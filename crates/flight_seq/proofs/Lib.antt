@@ -8,3 +8,6 @@ pub mod Tasks
 pub mod Asking
 pub mod Chains
 pub mod Drawings
+pub mod Handled
+pub mod Labels
+pub mod Whole

@@ -1,12 +1,12 @@
 -- One body more.
-use Rattle.std.proofs.Common.{◌≡◌, ℕ, ◌+◌, ◌<◌, ◌≤◌, Bool, true, false, cond, List, [], ◌∷◌, ◌++◌, map, Option, Some, None, refl, sym, ◌∙◌, ap, subst, inl, inr, ◌⊎◌, arith, true≢false, append-nil}
+use Rattle.std.proofs.Common.{◌≡◌, ℕ, ◌+◌, ◌<◌, ◌≤◌, Bool, true, false, cond, List, [], ◌∷◌, ◌++◌, map, Some, None, refl, sym, ◌∙◌, ap, subst, inl, inr, ◌⊎◌, arith, append-nil}
 use Rattle.std.specs.List.{AllByRecursion}
 use Rattle.std.proofs.lemmas.List.{map-append}
-use Rattle.std.proofs.lemmas.Option.{none-some, same_Some}
+use Rattle.std.proofs.lemmas.Option.{none-some}
 use Rattle.flight_render.specs.declared.root.Ground.{Ground}
-use Rattle.flight_render.specs.Run.{gave, threw, End}
+use Rattle.flight_render.specs.Run.{End}
 use Rattle.flight_render.specs.Bodies.{Finishes}
-use Rattle.flight_render.specs.Costs.{In, Distinct, Rendered, TotalOver, IsOver, total_of}
+use Rattle.flight_render.specs.Costs.{In, Distinct, Rendered, IsOver, total_of}
 use Rattle.flight_render.proofs.Sourced.{each_append}
 use Rattle.flight_eval.specs.declared.body.Gave.{Gave}
 use Rattle.flight_eval.specs.declared.body.Gave.TheVariants as gives
@@ -14,8 +14,8 @@ use Rattle.flight_eval.specs.Attempted.{end_of}
 use Rattle.flight_seq.specs.declared.known.Known.{Known}
 use Rattle.flight_seq.specs.declared.known.Known.TheVariants.{Finished, Waits}
 use Rattle.flight_seq.specs.declared.walk.Walk.{Walk}
-use Rattle.flight_seq.specs.Walk.{Entry, same_address, known_at, known_cost, counted, IsEntry, IsMet, IsWalk, IsKnownAt, GoesOn, Reaches}
-use Rattle.flight_seq.proofs.Walks.{same_is, same_self}
+use Rattle.flight_seq.specs.Walk.{Entry, same_address, known_at, known_cost, counted, IsEntry, IsMet, IsWalk, GoesOn, Reaches}
+use Rattle.flight_seq.proofs.Walks.{same_self}
 
 -- ---- lists without repeats
 

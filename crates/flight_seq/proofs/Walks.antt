@@ -1,23 +1,21 @@
 -- What a walk knows is so.
-use Rattle.std.proofs.Common.{◌≡◌, ℕ, ◌≤◌, Bool, true, false, cond, nat_eq, List, [], ◌∷◌, ◌++◌, Option, Some, None, slice_get, refl, sym, ◌∙◌, ap, subst, Decides, true≢false}
+use Rattle.std.proofs.Common.{◌≡◌, ℕ, Bool, true, false, cond, List, [], ◌∷◌, Option, Some, None, slice_get, refl, sym, ◌∙◌, ap, subst, Decides}
 use Rattle.std.specs.Prelude.{option_and_then}
 use Rattle.std.specs.List.{AllByRecursion}
 use Rattle.std.proofs.lemmas.Bool.Decides.{Decides-eqb}
 use Rattle.std.proofs.lemmas.Slice.Eq.{slice_eq-Decides}
 use Rattle.std.proofs.lemmas.Option.{none-some, same_Some}
 use Rattle.flight_value.specs.declared.made.Made.{Made}
-use Rattle.flight_value.specs.declared.made.Tree.{Tree}
 use Rattle.flight_value.specs.declared.name.Name.{Name}
 use Rattle.flight_render.specs.declared.root.Ground.{Ground}
-use Rattle.flight_render.specs.Run.{Run, gave, threw, End}
-use Rattle.flight_render.specs.Bodies.{body_at, node_at, finished, is_finished, made_by}
+use Rattle.flight_render.specs.Bodies.{node_at, finished, is_finished, made_by}
 use Rattle.flight_render.proofs.Larger.{finished-is}
 use Rattle.flight_eval.specs.declared.body.Gave.{Gave}
 use Rattle.flight_eval.specs.declared.body.Gave.TheVariants as gives
 use Rattle.flight_eval.specs.Attempted.{end_of}
 use Rattle.flight_seq.specs.declared.known.Known.{Known}
 use Rattle.flight_seq.specs.declared.known.Known.TheVariants as known
-use Rattle.flight_seq.specs.Walk.{Entry, same_address, known_at, known_made, made_at, IsEntry, IsKnownBody}
+use Rattle.flight_seq.specs.Walk.{Entry, same_address, known_at, known_made, made_at, IsEntry}
 
 -- ---- addresses
 

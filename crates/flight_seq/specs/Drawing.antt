@@ -1,5 +1,5 @@
 -- A graph on its way, under keys of nodes.
-use Rattle.std.specs.Prelude.{ℕ, suc, ◌≡◌, ◌<◌, ◌≤◌, ◌^◌, Bool, List, [], ◌∷◌, length, Some, None, slice_get}
+use Rattle.std.specs.Prelude.{ℕ, suc, ◌≡◌, ◌<◌, ◌≤◌, ◌^◌, Bool, List, [], ◌∷◌, length, Some, slice_get}
 use Rattle.std.specs.List.{AllZip}
 use Rattle.flight_value.specs.Graph.{slots_of}
 use Rattle.flight_value.specs.declared.graph.Node.{Node}

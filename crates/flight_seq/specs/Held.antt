@@ -1,5 +1,5 @@
 -- What stands in a slot before it is followed, and a node with such slots.
-use Rattle.std.specs.Prelude.{List, map}
+use Rattle.std.specs.Prelude.{map}
 use Rattle.flight_value.specs.Store as store
 use Rattle.flight_render.specs.Run as run
 use Rattle.flight_render.specs.Jobs.{Value, shown, of_job, failed, stopped, the_root, outcome, known, blank}

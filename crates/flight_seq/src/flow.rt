@@ -30,11 +30,7 @@ pub fn flow_of(
         match come(ground, seen, *source) {
             Arrived::Value(_) => held.push(Held::Outcome { source: *source })?,
             Arrived::Rejected(digest) => {
-                return Ok(stream_of(
-                    flowing.flow,
-                    FlowState::Broken(digest.clone()?),
-                    held,
-                ));
+                return Ok(stream_of(flowing.flow, FlowState::Broken(digest.clone()?), held));
             }
             Arrived::Waits => return Ok(stream_of(flowing.flow, FlowState::Flowing, held)),
         }

@@ -140,12 +140,7 @@ fn held_element(
     Ok(held)
 }
 
-fn held_stream(
-    alloc: Global,
-    source: u32,
-    items: &[Slot],
-    end: &End,
-) -> Result<Vec<Held>, Memory>
+fn held_stream(alloc: Global, source: u32, items: &[Slot], end: &End) -> Result<Vec<Held>, Memory>
     ensures { IfOk result (λ hs. map value_held hs.items ≡ map (λ slot. shown (from_source source slot)) (items.now ++ end_slots end.now)) }
 {
     let mut held = held_slots(alloc, source, items)?;

@@ -19,7 +19,9 @@ pub enum Known {
         cost: u32,
     },
     /// It waits for a source that is not settled.
-    Waits { source: u32 },
+    Waits {
+        source: u32,
+    },
 }
 
 impl Known {

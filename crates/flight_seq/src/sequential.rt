@@ -4,8 +4,8 @@ ghost use Rattle.flight_value.specs.Store.{DrawOneGraph, of_graph};
 ghost use Rattle.flight_render.specs.Valid.{IsValidGround};
 ghost use Rattle.flight_render.specs.Plain as render;
 ghost use Rattle.flight_render.specs.Costs.{IsOver};
-ghost use Rattle.flight_seq.specs.Whole.{IsDrawing};
-ghost use Rattle.flight_seq.specs.Cost.{IsCost, IsRendered};
+ghost use Rattle.flight_seq.specs.Walk.{IsWalk};
+ghost use Rattle.flight_seq.specs.Cost.{IsCost, IsRendered, IsRenderedIn};
 
 use crate::draw::within;
 use crate::held::Held;
@@ -13,37 +13,35 @@ use crate::total::{Cost, Rendered};
 use crate::walk::Walk;
 use flight_render::Ground;
 use flight_syntax::Seen;
-use flight_value::{Graph, List, Memory, Node, Shared, Slot};
+use flight_value::{Graph, List, Memory, Shared};
 use std::alloc::Global;
 
-/// A graph that was drawn, with the walk that drew it.
-#[derive(Drop)]
-pub struct Drawing {
-    pub root: Slot,
-    pub nodes: Vec<Node>,
-    pub walk: Walk,
-}
-
-/// Draws what the root stands for, and all to which it leads. None where the rendering is over the fuel.
-fn draw(
-    alloc: Global,
-    ground: &Ground,
-    seen: &Shared<Seen>,
-    fuel: u32,
-) -> Result<Option<Drawing>, Memory>
-    requires valid { IsValidGround ground.now }
-    requires seen { length seen.now.settled ≡ length ground.now.script.sources }
-    ensures { IfOk result (λ o. MatchOption o (IsOver ground.now seen.now.settled fuel) (IsDrawing ground.now seen.now.settled fuel)) }
-{
-    let mut walk = Walk::new(alloc);
-    let Some(root) = walk.follow(alloc, ground, seen, fuel, Held::Root)? else {
-        return Ok(None);
-    };
-    let Some(nodes) = walk.nodes(alloc, ground, seen, fuel)? else {
-        return Ok(None);
-    };
-    within(nodes.len())?;
-    Ok(Some(Drawing { root, nodes, walk }))
+impl Walk {
+    /// The graph of what the root stands for. None where the rendering is over the fuel.
+    fn graph(
+        &mut self,
+        alloc: Global,
+        ground: &Ground,
+        seen: &Shared<Seen>,
+        fuel: u32,
+    ) -> Result<Option<Graph>, Memory>
+        requires valid { IsValidGround ground.now }
+        requires seen { length seen.now.settled ≡ length ground.now.script.sources }
+        requires walk { IsWalk ground.now seen.now.settled fuel self.old }
+        ensures { IfOk result (λ o. MatchOption o (IsOver ground.now seen.now.settled fuel) (IsRenderedIn ground.now seen.now.settled fuel self.new.spent)) }
+    {
+        let Some(root) = self.follow(alloc, ground, seen, fuel, Held::Root)? else {
+            return Ok(None);
+        };
+        let Some(nodes) = self.nodes(alloc, ground, seen, fuel)? else {
+            return Ok(None);
+        };
+        within(nodes.len())?;
+        Ok(Some(Graph {
+            root,
+            nodes: List::new(nodes),
+        }))
+    }
 }
 
 /// The same sources settled, with an owner of its own.
@@ -60,24 +58,17 @@ fn own_seen(alloc: Global, seen: &Seen) -> Result<Shared<Seen>, Memory>
 }
 
 /// Sequential rendering with just these sources settled, and what it costs.
-pub fn rendered(
-    alloc: Global,
-    ground: &Ground,
-    seen: &Seen,
-    fuel: u32,
-) -> Result<Rendered, Memory>
+pub fn rendered(alloc: Global, ground: &Ground, seen: &Seen, fuel: u32) -> Result<Rendered, Memory>
     requires valid { IsValidGround ground.now }
     requires seen { length seen.now.settled ≡ length ground.now.script.sources }
     ensures { IfOk result (IsRendered ground.now seen.now.settled fuel) }
 {
     let seen = own_seen(alloc, seen)?;
-    match draw(alloc, ground, &seen, fuel)? {
-        Some(Drawing { root, nodes, walk }) => Ok(Rendered::Within {
+    let mut walk = Walk::new(alloc);
+    match walk.graph(alloc, ground, &seen, fuel)? {
+        Some(graph) => Ok(Rendered::Within {
             total: walk.spent,
-            graph: Graph {
-                root,
-                nodes: List::new(nodes),
-            },
+            graph,
         }),
         None => Ok(Rendered::Over),
     }

@@ -37,7 +37,11 @@ impl Walk {
                 Some(found) => source_shape(alloc, *source, found),
                 None => Err(Memory),
             },
-            Key::Settled { source } => shape_with(alloc, Label::Promise, Held::Outcome { source: *source }),
+            Key::Settled { source } => shape_with(
+                alloc,
+                Label::Promise,
+                Held::Outcome { source: *source },
+            ),
             Key::Stream { stream } => match stream_at(ground, *stream) {
                 Some(flowing) => flow_of(alloc, ground, seen, flowing),
                 None => Err(Memory),
@@ -101,9 +105,7 @@ fn label_made(alloc: Global, ground: &Ground, kind: &MadeKind) -> Result<Label, 
         MadeKind::Element => Ok(Label::Element),
         MadeKind::Server { .. } => Err(Memory),
         MadeKind::Promise => Ok(Label::Promise),
-        MadeKind::Bound { action } => {
-            Ok(Label::Action(name_of_action(alloc, ground, *action)?))
-        }
+        MadeKind::Bound { action } => { Ok(Label::Action(name_of_action(alloc, ground, *action)?)) }
     }
 }
 

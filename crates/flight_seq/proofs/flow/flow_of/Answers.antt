@@ -1,5 +1,5 @@
-use Rattle.std.proofs.Common.{◌≡◌, ◌∙◌, ◌∷◌, [], ap, refl, sym, ◌+◌, get_or, drop, map}
-use Rattle.flight_render.specs.Run.{gave, threw, waits}
+use Rattle.std.proofs.Common.{◌∙◌, ap, sym, ◌+◌, get_or, drop, map}
+use Rattle.flight_render.specs.Run.{gave, threw}
 use Rattle.flight_render.specs.Plain.{flow}
 use Rattle.flight_seq.specs.declared.held.Held.TheVariants as held
 use Rattle.flight_seq.specs.Held.{shape_for, value_held}

@@ -1,4 +1,4 @@
-use Rattle.std.proofs.Common.{◌≡◌, ◌∙◌, ap, refl, sym}
+use Rattle.std.proofs.Common.{◌∙◌, ap}
 use Rattle.flight_render.specs.Run.{gave, threw, waits}
 use Rattle.flight_render.specs.Jobs.{comes}
 use Rattle.flight_render.specs.Plain.{flow_last, last_job}

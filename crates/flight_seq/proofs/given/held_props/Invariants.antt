@@ -1,4 +1,4 @@
-use Rattle.std.proofs.Common.{◌≡◌, ◌∷◌, [], map, flat_map, take}
+use Rattle.std.proofs.Common.{◌≡◌, map, take}
 use Rattle.flight_render.specs.Jobs.{shown}
 use Rattle.flight_seq.specs.Held.{value_held}
 use Rattle.flight_seq.specs.Sources.{from_source}

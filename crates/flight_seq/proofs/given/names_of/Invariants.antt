@@ -1,7 +1,4 @@
-use Rattle.std.proofs.Common.{◌≡◌, ◌∷◌, [], map, flat_map, take}
-use Rattle.flight_render.specs.Jobs.{shown}
-use Rattle.flight_seq.specs.Held.{value_held}
-use Rattle.flight_seq.specs.Sources.{from_source}
+use Rattle.std.proofs.Common.{◌≡◌, map, take}
 use Rattle.flight_seq.proofs.given.names_of.Given as goal
 
 abbrev pub invariant-loop-prop : goal.invariant-loop-prop

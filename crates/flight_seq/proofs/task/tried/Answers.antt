@@ -1,4 +1,3 @@
-use Rattle.std.proofs.Common.{◌≡◌}
 use Rattle.flight_seq.proofs.Tasks.{over_body}
 use Rattle.flight_seq.proofs.task.tried.Goals as goal
 

@@ -1,4 +1,3 @@
-use Rattle.std.proofs.Common.{◌≡◌}
 use Rattle.flight_seq.proofs.Asking.{asked_element}
 use Rattle.flight_seq.proofs.walk.Walk.element.Goals as goal
 

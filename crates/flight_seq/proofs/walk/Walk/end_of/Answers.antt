@@ -1,4 +1,4 @@
-use Rattle.std.proofs.Common.{◌≡◌, sym}
+use Rattle.std.proofs.Common.{sym}
 use Rattle.flight_seq.specs.Held.{end_for}
 use Rattle.flight_seq.proofs.Tasks.{ends_known}
 use Rattle.flight_seq.proofs.walk.Walk.end_of.Goals as goal

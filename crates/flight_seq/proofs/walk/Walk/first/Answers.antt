@@ -1,4 +1,4 @@
-use Rattle.std.proofs.Common.{◌≡◌, ◌∙◌, refl, sym, ap, subst, IfOk, MatchOption, Some}
+use Rattle.std.proofs.Common.{◌∙◌, sym, ap, subst, IfOk, MatchOption, Some}
 use Rattle.flight_value.specs.declared.graph.Atom.TheVariants as atom
 use Rattle.flight_value.specs.declared.made.Tree.TheVariants as tree
 use Rattle.flight_syntax.specs.declared.script.Seen.{Seen}

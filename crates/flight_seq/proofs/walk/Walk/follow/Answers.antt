@@ -1,4 +1,3 @@
-use Rattle.std.proofs.Common.{◌≡◌}
 use Rattle.flight_seq.specs.Held.{value_for, value_held}
 use Rattle.flight_seq.proofs.Chains.{reached_comes, follows_if}
 use Rattle.flight_seq.proofs.walk.Walk.follow.Goals as goal

@@ -1,4 +1,3 @@
-use Rattle.std.proofs.Common.{◌≡◌}
 use Rattle.flight_seq.specs.Held.{value_for}
 use Rattle.flight_seq.proofs.Pushing.{goes_none}
 use Rattle.flight_seq.proofs.Chains.{comes_none, goes_on, reached_comes, turn_stands, turn_on}

@@ -1,4 +1,4 @@
-use Rattle.std.proofs.Common.{◌≡◌, sym}
+use Rattle.std.proofs.Common.{sym}
 use Rattle.flight_seq.proofs.Tasks.{reaches_here}
 use Rattle.flight_seq.proofs.walk.Walk.reach.Goals as goal
 

@@ -1,4 +1,4 @@
-use Rattle.std.proofs.Common.{◌≡◌, ℕ, List, [], ◌∷◌, ◌++◌, ◌∙◌, ap}
+use Rattle.std.proofs.Common.{ℕ, List, [], ◌∷◌, ◌++◌, ◌∙◌, ap}
 use Rattle.flight_seq.specs.declared.walk.Walk.{Walk}
 use Rattle.flight_seq.proofs.Pushing.{over_total, reaches_push}
 use Rattle.flight_seq.proofs.walk.Walk.render.Goals as goal

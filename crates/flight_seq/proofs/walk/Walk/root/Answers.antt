@@ -1,4 +1,4 @@
-use Rattle.std.proofs.Common.{◌≡◌, rules}
+use Rattle.std.proofs.Common.{rules}
 use Rattle.flight_seq.proofs.Asking.{asked_root}
 use Rattle.flight_seq.proofs.walk.Walk.root.Goals as goal
 

@@ -1,4 +1,4 @@
-use Rattle.std.proofs.Common.{◌≡◌, sym}
+use Rattle.std.proofs.Common.{sym}
 use Rattle.flight_seq.specs.Held.{shape_for}
 use Rattle.flight_seq.proofs.Results.{if_ok}
 use Rattle.flight_seq.proofs.Shapes.{made_node, stream_node}

@@ -1,4 +1,3 @@
-use Rattle.std.proofs.Common.{◌≡◌}
 use Rattle.flight_seq.proofs.Chains.{stands_push}
 use Rattle.flight_seq.proofs.walk.Walk.stand.Goals as goal
 
