@@ -48,6 +48,7 @@ around mark text before after f u = by f.around
     at_end rest e =
         let p = cut_lines f.lines rest (subst IsUtf8 (e ∙ ap (λ b. b ++ rest) f.front) u) in
         (subst IsUtf8 (sym f.front) p.0, p.1)
+
     by : IsAround mark text before after → IsUtf8 before × IsUtf8 after
     by (inl (e, n)) = ((at_end mark e).0, subst IsUtf8 (sym n) IsUtf8-nil)
     by (inr e) = let p = at_end (mark ++ newline ∷ after) e in (p.0, (cut mark after p.1).1)
@@ -57,6 +58,7 @@ shorter mark text before after f = by f.around
   where
     at_end : (rest : List ℕ) → text ≡ before ++ rest → length before ≤ length text
     at_end rest e = let n = ap length e ∙ length-append before rest in omega (arith, n)
+
     by : IsAround mark text before after → length before ≤ length text
     by (inl (e, n)) = at_end mark e
     by (inr e) = at_end (mark ++ newline ∷ after) e

@@ -11,7 +11,10 @@ fn line(alloc: Global, bytes: &[u8], reply: bool) -> Result<String, Fail> {
             let declared = bundle.ground.program.declared.as_slice().len();
             let sources = bundle.ground.script.sources.as_slice().len();
             match bundle.reply {
-                Some(reply) => format!(in alloc; "{declared} {sources} {}", reply.as_slice().len())?,
+                Some(reply) => format!(in alloc;
+                    "{declared} {sources} {}",
+                    reply.as_slice().len()
+                )?,
                 None => format!(in alloc; "{declared} {sources}")?,
             }
         }
@@ -26,7 +29,9 @@ fn fault_line(alloc: Global, fault: BundleFault) -> Result<String, Fail> {
         BundleFault::NotUtf8 { at } => format!(in alloc; "not UTF-8 {at}")?,
         BundleFault::ReplyWanted => String::from_str(alloc, "reply wanted")?,
         BundleFault::ReplyNotWanted => String::from_str(alloc, "reply not wanted")?,
-        BundleFault::Program(ParseFault::Unexpected { at }) => format!(in alloc; "unexpected {at}")?,
+        BundleFault::Program(ParseFault::Unexpected { at }) => format!(in alloc;
+            "unexpected {at}"
+        )?,
         BundleFault::Program(ParseFault::Unknown { name, at }) => {
             format!(in alloc; "unknown {} {at}", name.as_str())?
         }
@@ -52,10 +57,22 @@ fn reads_bundles(rt: HostRuntime) -> Result<(), Fail> {
             true,
             "1 0 4",
         ),
-        (b"server App() = 1;\n%%script\n{\"version\":1,\"sources\":{}}\n%%reply", true, "1 0 0"),
+        (
+            b"server App() = 1;\n%%script\n{\"version\":1,\"sources\":{}}\n%%reply",
+            true,
+            "1 0 0",
+        ),
         // the order of the faults
-        (b"server App() = \xff;\n%%script\n{\n%%reply\n", false, "not UTF-8 15"),
-        (b"server App() = x;\n%%script\n{\n%%reply\n", false, "reply not wanted"),
+        (
+            b"server App() = \xff;\n%%script\n{\n%%reply\n",
+            false,
+            "not UTF-8 15",
+        ),
+        (
+            b"server App() = x;\n%%script\n{\n%%reply\n",
+            false,
+            "reply not wanted",
+        ),
         (b"server App() = x;\n%%script\n{\n", true, "reply wanted"),
         (b"server App() = x;\n%%script\n{\n", false, "unknown x 15"),
         (b"server App() = 1;\n%%script\n{\n", false, "bad json"),
@@ -66,7 +83,11 @@ fn reads_bundles(rt: HostRuntime) -> Result<(), Fail> {
         (b"server App() =\n%%script\n{", false, "unexpected 15"),
     ] {
         let found = line(rt.alloc(), bytes, reply)?;
-        assert!(rt; found.as_str() == expected, "{} for {expected}", found.as_str());
+        assert!(rt;
+            found.as_str() == expected,
+            "{} for {expected}",
+            found.as_str()
+        );
     }
     Ok(())
 }

@@ -8,6 +8,7 @@ ghost use Rattle.flight_top.specs.Plain.{IsDueGround, IsDuePlain, IsDuePlainOf};
 
 use crate::bundle_line::bundle_refusal;
 use crate::due::{Due, Undue, line};
+use crate::run::MOST_BUNDLE;
 use crate::told::Status;
 use crate::view::told;
 use flight_base::{ReadAll, Source, read_all};
@@ -18,9 +19,6 @@ use flight_script::scripted;
 use flight_seq::{Rendered, rendered};
 use flight_value::{Graph, Memory};
 use std::alloc::Global;
-
-/// The most bytes of a bundle.
-const MOST_BUNDLE: usize = 1_048_576;
 
 /// What `plain` owes for the bytes that a source has left: the graph of plain rendering with the scripted sources
 /// settled, at most at this cost.

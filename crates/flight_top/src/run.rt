@@ -22,7 +22,7 @@ use serde_json::Value;
 use std::alloc::Global;
 
 /// The most bytes of a bundle.
-const MOST_BUNDLE: usize = 1_048_576;
+pub const MOST_BUNDLE: usize = 1_048_576;
 
 /// Whether the words are those of the command.
 pub fn is_run(words: &[String]) -> bool

@@ -257,7 +257,12 @@ fn renders_bundles(rt: HostRuntime) -> Result<(), Fail> {
             Status::Done,
             "root #0\n#0 iterable [1] failed \"no\"\n",
         ),
-        ("1000", "server App() = <App/>;", Status::Done, "root failed \"depth\"\n"),
+        (
+            "1000",
+            "server App() = <App/>;",
+            Status::Done,
+            "root failed \"depth\"\n",
+        ),
         ("999", "server App() = <App/>;", Status::Fuel, "fuel\n"),
         (
             "1",
