@@ -1,5 +1,6 @@
-pub mod Insertion
 pub mod Own
+pub mod Searched
+pub mod StableOrder
 pub mod Starts
 pub mod Steps
 pub mod Stopped

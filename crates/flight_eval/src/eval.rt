@@ -17,7 +17,8 @@ use crate::parts::{
 };
 use crate::sorted::{make_element, make_object};
 use crate::stop::Stop;
-use crate::work::{Place, Work, make, pay};
+use crate::work::{Work, make, pay};
+use crate::place::Place;
 use flight_syntax::{Expr, Op, PairExpr, PropExpr, Tag};
 use flight_value::{Atom, MadeKind, Tree};
 

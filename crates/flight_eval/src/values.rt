@@ -6,7 +6,8 @@ ghost use Rattle.flight_eval.specs.Seen.{seen_of, items_of, slot_tree};
 ghost use Rattle.flight_eval.specs.Gives.{work_of, Gives};
 
 use crate::stop::Stop;
-use crate::work::{Place, Work};
+use crate::work::Work;
+use crate::place::Place;
 use flight_render::{Ground, Root};
 use flight_syntax::Outcome;
 use flight_value::{Atom, Graph, List, Made, MadeKind, Memory, Name, Node, Prop, Shared, Slot, Text, Tree};
