@@ -11,11 +11,11 @@ ghost use Rattle.flight_eval.specs.Attempted.{IsAttempt, tables_of};
 ghost use Rattle.flight_eval.specs.declared.body.Attempt.TheVariants.{Finished as finished_attempt};
 
 use crate::body::{Attempt, Body, Gave};
+use crate::place::Place;
 use crate::start::{element_body, root_body};
 use crate::stop::Stop;
 use crate::values::{slot_tree, source_end};
 use crate::work::Work;
-use crate::place::Place;
 use flight_render::{Ground, Job, Root, What};
 use flight_value::{Atom, List, Memory, Shared, Slot, Tables, Tree};
 use std::alloc::Global;
@@ -94,7 +94,13 @@ fn tables_of(alloc: Global, what: &What) -> Result<Shared<Tables>, Memory>
 }
 
 /// An attempt of which one body finished.
-fn finished(alloc: Global, job: &Job, tables: Shared<Tables>, gave: Gave, work: Work) -> Result<Attempt, Memory>
+fn finished(
+    alloc: Global,
+    job: &Job,
+    tables: Shared<Tables>,
+    gave: Gave,
+    work: Work,
+) -> Result<Attempt, Memory>
     ensures { IfOk result (λ attempt. attempt ≡ finished_attempt (record { address = job.now.address; tables = tables; made = work.made.items; gave = gave; cost = work.cost } ∷ [])) }
 {
     let Work { made, cost } = work;

@@ -10,17 +10,23 @@ ghost use Rattle.flight_eval.specs.Gives.{work_of, context_of, Gives};
 ghost use Rattle.flight_eval.specs.Names.{HasAscendingNames};
 
 use crate::operators::{operated, thrown, throws};
+use crate::place::Place;
 use crate::stop::Stop;
 use crate::values::{copy_tree, items_in, property_in, source_end};
 use crate::work::{Work, pay, weight};
-use crate::place::Place;
 use flight_render::Ground;
 use flight_syntax::{Data, Declared, Flowing, Op};
 use flight_value::{Atom, Memory, Text, Tree};
 use std::alloc::Global;
 
 /// An operator other than `&&` and `||` on two values. A text that it makes costs its bytes.
-pub fn give_operated(place: &Place, op: Op, x: &Tree, y: &Tree, work: &mut Work) -> Result<Tree, Stop>
+pub fn give_operated(
+    place: &Place,
+    op: Op,
+    x: &Tree,
+    y: &Tree,
+    work: &mut Work,
+) -> Result<Tree, Stop>
     requires within { work.old.cost ≤ place.now.fuel }
     ensures { Gives (λ t. t) place.now.fuel (give_atom (operated op x.now y.now) (work_of work.old)) result (work_of work.new) }
 {

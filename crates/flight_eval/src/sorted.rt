@@ -4,9 +4,9 @@ ghost use Rattle.flight_eval.specs.Gives.{work_of, context_of, Gives};
 ghost use Rattle.flight_eval.specs.Object.{pair_of, attributes_of};
 
 use crate::object::{Attributes, Property, make_tagged};
+use crate::place::Place;
 use crate::stop::Stop;
 use crate::work::{Work, make};
-use crate::place::Place;
 use flight_syntax::Tag;
 use flight_value::{List, MadeKind, Memory, Text, Tree};
 use std::alloc::Global;
@@ -34,23 +34,14 @@ fn unzipped(alloc: Global, props: Vec<Property>) -> Result<(Vec<Text>, Vec<Tree>
 }
 
 /// Makes an object of these properties.
-pub fn make_object(
-    place: &Place,
-    props: Vec<Property>,
-    work: &mut Work,
-) -> Result<Tree, Stop>
+pub fn make_object(place: &Place, props: Vec<Property>, work: &mut Work) -> Result<Tree, Stop>
     requires within { work.old.cost ≤ place.now.fuel }
     ensures { Gives (λ t. t) place.now.fuel (make_object (context_of place.now) (map pair_of props.items) (work_of work.old)) result (work_of work.new) }
 {
     let mut props = props;
     sort_by_name(&mut props)?;
     let (names, values) = unzipped(place.alloc, props)?;
-    make(
-        place,
-        MadeKind::Object(List::new(names)),
-        values,
-        work,
-    )
+    make(place, MadeKind::Object(List::new(names)), values, work)
 }
 
 /// Makes the props object, and then the element.
