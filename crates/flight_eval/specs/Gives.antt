@@ -5,7 +5,7 @@ use Rattle.flight_render.specs.Eval.{Context}
 use Rattle.flight_eval.specs.declared.stop.Stop.{Stop}
 use Rattle.flight_eval.specs.declared.stop.Stop.TheVariants as stop
 use Rattle.flight_eval.specs.declared.work.Work.{Work}
-use Rattle.flight_eval.specs.declared.work.Place.{Place}
+use Rattle.flight_eval.specs.declared.place.Place.{Place}
 
 -- what the code has done, and where it evaluates
 abbrev pub work_of : Work → Machine

@@ -15,9 +15,10 @@ use crate::parts::{
     array_items, client_tree, give_operated, item_at, promise, property, source, stream, throw,
     variable,
 };
+use crate::place::Place;
 use crate::sorted::{make_element, make_object};
 use crate::stop::Stop;
-use crate::work::{Place, Work, make, pay};
+use crate::work::{Work, make, pay};
 use flight_syntax::{Expr, Op, PairExpr, PropExpr, Tag};
 use flight_value::{Atom, MadeKind, Tree};
 
@@ -83,14 +84,7 @@ pub fn eval(place: &Place, e: &Expr, env: &mut Vec<Tree>, work: &mut Work) -> Re
             tag,
             attrs,
             children,
-        } => eval_element(
-            place,
-            tag,
-            attrs.as_slice(),
-            children.as_slice(),
-            env,
-            work,
-        ),
+        } => eval_element(place, tag, attrs.as_slice(), children.as_slice(), env, work),
         Expr::Atom(atom) => Ok(Tree::Atom(atom.copy()?)),
         Expr::Variable(number) => Ok(variable(env.as_slice(), *number)?),
         Expr::Client(client) => Ok(client_tree(place, *client)?),
@@ -106,7 +100,13 @@ pub fn eval(place: &Place, e: &Expr, env: &mut Vec<Tree>, work: &mut Work) -> Re
 
 /// A value, and what is evaluated with it as one further variable.
 #[cycle(evaluation)]
-fn eval_let(place: &Place, value: &Expr, then: &Expr, env: &mut Vec<Tree>, work: &mut Work) -> Result<Tree, Stop>
+fn eval_let(
+    place: &Place,
+    value: &Expr,
+    then: &Expr,
+    env: &mut Vec<Tree>,
+    work: &mut Work,
+) -> Result<Tree, Stop>
     requires within { work.old.cost ≤ place.now.fuel }
     ensures gives { Gives (λ t. t) place.now.fuel (and_then (eval (context_of place.now) (term value.now) env.old.items (work_of work.old)) (λ t n. eval (context_of place.now) (term then.now) (env.old.items ++ t ∷ []) n)) result (work_of work.new) }
     ensures env { OnOk result (env.new.items ≡ env.old.items) }
@@ -120,7 +120,14 @@ fn eval_let(place: &Place, value: &Expr, then: &Expr, env: &mut Vec<Tree>, work:
 
 /// One of two, by a test.
 #[cycle(evaluation)]
-fn eval_if(place: &Place, test: &Expr, yes: &Expr, no: &Expr, env: &mut Vec<Tree>, work: &mut Work) -> Result<Tree, Stop>
+fn eval_if(
+    place: &Place,
+    test: &Expr,
+    yes: &Expr,
+    no: &Expr,
+    env: &mut Vec<Tree>,
+    work: &mut Work,
+) -> Result<Tree, Stop>
     requires within { work.old.cost ≤ place.now.fuel }
     ensures gives { Gives (λ t. t) place.now.fuel (and_then (eval (context_of place.now) (term test.now) env.old.items (work_of work.old)) (λ t n. branch t (eval (context_of place.now) (term yes.now) env.old.items) (eval (context_of place.now) (term no.now) env.old.items) n)) result (work_of work.new) }
     ensures env { OnOk result (env.new.items ≡ env.old.items) }
@@ -135,7 +142,13 @@ fn eval_if(place: &Place, test: &Expr, yes: &Expr, no: &Expr, env: &mut Vec<Tree
 
 /// The array of what each item of an array gives.
 #[cycle(evaluation)]
-fn eval_for(place: &Place, over: &Expr, give: &Expr, env: &mut Vec<Tree>, work: &mut Work) -> Result<Tree, Stop>
+fn eval_for(
+    place: &Place,
+    over: &Expr,
+    give: &Expr,
+    env: &mut Vec<Tree>,
+    work: &mut Work,
+) -> Result<Tree, Stop>
     requires within { work.old.cost ≤ place.now.fuel }
     ensures gives { Gives (λ t. t) place.now.fuel (and_then (eval (context_of place.now) (term over.now) env.old.items (work_of work.old)) (λ t n. and_then (give_or_fail type_digest (items_in place.now.over.now (known (context_of place.now) n) t) n) (λ items k. and_then (each (λ item l. eval (context_of place.now) (term give.now) (env.old.items ++ item ∷ []) l) items [] k) (make_here (context_of place.now) array_kind)))) result (work_of work.new) }
     ensures env { OnOk result (env.new.items ≡ env.old.items) }
@@ -148,7 +161,13 @@ fn eval_for(place: &Place, over: &Expr, give: &Expr, env: &mut Vec<Tree>, work: 
 
 /// An item of an array.
 #[cycle(evaluation)]
-fn eval_index(place: &Place, of: &Expr, at: &Expr, env: &mut Vec<Tree>, work: &mut Work) -> Result<Tree, Stop>
+fn eval_index(
+    place: &Place,
+    of: &Expr,
+    at: &Expr,
+    env: &mut Vec<Tree>,
+    work: &mut Work,
+) -> Result<Tree, Stop>
     requires within { work.old.cost ≤ place.now.fuel }
     ensures gives { Gives (λ t. t) place.now.fuel (and_then (eval (context_of place.now) (term of.now) env.old.items (work_of work.old)) (λ t n. and_then (eval (context_of place.now) (term at.now) env.old.items n) (λ i k. item_at (context_of place.now) t i k))) result (work_of work.new) }
     ensures env { OnOk result (env.new.items ≡ env.old.items) }
@@ -160,7 +179,14 @@ fn eval_index(place: &Place, of: &Expr, at: &Expr, env: &mut Vec<Tree>, work: &m
 
 /// An operator between two expressions.
 #[cycle(evaluation)]
-fn eval_operator(place: &Place, op: Op, left: &Expr, right: &Expr, env: &mut Vec<Tree>, work: &mut Work) -> Result<Tree, Stop>
+fn eval_operator(
+    place: &Place,
+    op: Op,
+    left: &Expr,
+    right: &Expr,
+    env: &mut Vec<Tree>,
+    work: &mut Work,
+) -> Result<Tree, Stop>
     requires within { work.old.cost ≤ place.now.fuel }
     ensures gives { Gives (λ t. t) place.now.fuel (operator_run (context_of place.now) op (term left.now) (term right.now) env.old.items (work_of work.old)) result (work_of work.new) }
     ensures env { OnOk result (env.new.items ≡ env.old.items) }
@@ -174,7 +200,13 @@ fn eval_operator(place: &Place, op: Op, left: &Expr, right: &Expr, env: &mut Vec
 
 /// The right where the left is true.
 #[cycle(evaluation)]
-fn eval_and(place: &Place, left: &Expr, right: &Expr, env: &mut Vec<Tree>, work: &mut Work) -> Result<Tree, Stop>
+fn eval_and(
+    place: &Place,
+    left: &Expr,
+    right: &Expr,
+    env: &mut Vec<Tree>,
+    work: &mut Work,
+) -> Result<Tree, Stop>
     requires within { work.old.cost ≤ place.now.fuel }
     ensures gives { Gives (λ t. t) place.now.fuel (and_then (eval (context_of place.now) (term left.now) env.old.items (work_of work.old)) (λ t n. branch t (eval (context_of place.now) (term right.now) env.old.items) (give t) n)) result (work_of work.new) }
     ensures env { OnOk result (env.new.items ≡ env.old.items) }
@@ -189,7 +221,13 @@ fn eval_and(place: &Place, left: &Expr, right: &Expr, env: &mut Vec<Tree>, work:
 
 /// The right where the left is false.
 #[cycle(evaluation)]
-fn eval_or(place: &Place, left: &Expr, right: &Expr, env: &mut Vec<Tree>, work: &mut Work) -> Result<Tree, Stop>
+fn eval_or(
+    place: &Place,
+    left: &Expr,
+    right: &Expr,
+    env: &mut Vec<Tree>,
+    work: &mut Work,
+) -> Result<Tree, Stop>
     requires within { work.old.cost ≤ place.now.fuel }
     ensures gives { Gives (λ t. t) place.now.fuel (and_then (eval (context_of place.now) (term left.now) env.old.items (work_of work.old)) (λ t n. branch t (give t) (eval (context_of place.now) (term right.now) env.old.items) n)) result (work_of work.new) }
     ensures env { OnOk result (env.new.items ≡ env.old.items) }
@@ -204,7 +242,14 @@ fn eval_or(place: &Place, left: &Expr, right: &Expr, env: &mut Vec<Tree>, work: 
 
 /// An operator of which both sides are evaluated.
 #[cycle(evaluation)]
-fn eval_both(place: &Place, op: Op, left: &Expr, right: &Expr, env: &mut Vec<Tree>, work: &mut Work) -> Result<Tree, Stop>
+fn eval_both(
+    place: &Place,
+    op: Op,
+    left: &Expr,
+    right: &Expr,
+    env: &mut Vec<Tree>,
+    work: &mut Work,
+) -> Result<Tree, Stop>
     requires within { work.old.cost ≤ place.now.fuel }
     ensures gives { Gives (λ t. t) place.now.fuel (both_run (context_of place.now) op (term left.now) (term right.now) env.old.items (work_of work.old)) result (work_of work.new) }
     ensures env { OnOk result (env.new.items ≡ env.old.items) }
@@ -216,7 +261,14 @@ fn eval_both(place: &Place, op: Op, left: &Expr, right: &Expr, env: &mut Vec<Tre
 
 /// An element: its attributes, its children, and then itself.
 #[cycle(evaluation)]
-fn eval_element(place: &Place, tag: &Tag, attrs: &[PropExpr], children: &[Expr], env: &mut Vec<Tree>, work: &mut Work) -> Result<Tree, Stop>
+fn eval_element(
+    place: &Place,
+    tag: &Tag,
+    attrs: &[PropExpr],
+    children: &[Expr],
+    env: &mut Vec<Tree>,
+    work: &mut Work,
+) -> Result<Tree, Stop>
     requires within { work.old.cost ≤ place.now.fuel }
     ensures gives { Gives (λ t. t) place.now.fuel (and_then (eval_attrs (context_of place.now) (props_of (map prop attrs.now)) env.old.items no_attributes (work_of work.old)) (λ with_attrs n. and_then (eval_all (context_of place.now) (terms_of (map term children.now)) env.old.items [] n) (λ inside k. and_then (with_children (context_of place.now) with_attrs inside k) (make_element (context_of place.now) tag.now)))) result (work_of work.new) }
     ensures env { OnOk result (env.new.items ≡ env.old.items) }
@@ -229,7 +281,13 @@ fn eval_element(place: &Place, tag: &Tag, attrs: &[PropExpr], children: &[Expr],
 
 /// What each item gives, as one further variable.
 #[cycle(evaluation)]
-fn eval_each(place: &Place, items: Vec<Tree>, give: &Expr, env: &mut Vec<Tree>, work: &mut Work) -> Result<Vec<Tree>, Stop>
+fn eval_each(
+    place: &Place,
+    items: Vec<Tree>,
+    give: &Expr,
+    env: &mut Vec<Tree>,
+    work: &mut Work,
+) -> Result<Vec<Tree>, Stop>
     requires within { work.old.cost ≤ place.now.fuel }
     ensures gives { Gives (λ v. v.items) place.now.fuel (each (λ item l. eval (context_of place.now) (term give.now) (env.old.items ++ item ∷ []) l) items.items [] (work_of work.old)) result (work_of work.new) }
     ensures env { OnOk result (env.new.items ≡ env.old.items) }
@@ -246,7 +304,12 @@ fn eval_each(place: &Place, items: Vec<Tree>, give: &Expr, env: &mut Vec<Tree>, 
 
 /// Expressions one after another.
 #[cycle(evaluation)]
-fn eval_all(place: &Place, items: &[Expr], env: &mut Vec<Tree>, work: &mut Work) -> Result<Vec<Tree>, Stop>
+fn eval_all(
+    place: &Place,
+    items: &[Expr],
+    env: &mut Vec<Tree>,
+    work: &mut Work,
+) -> Result<Vec<Tree>, Stop>
     requires within { work.old.cost ≤ place.now.fuel }
     ensures gives { Gives (λ v. v.items) place.now.fuel (eval_all (context_of place.now) (terms_of (map term items.now)) env.old.items [] (work_of work.old)) result (work_of work.new) }
     ensures env { OnOk result (env.new.items ≡ env.old.items) }
@@ -261,7 +324,12 @@ fn eval_all(place: &Place, items: &[Expr], env: &mut Vec<Tree>, work: &mut Work)
 
 /// The entries of a map: key, value, key, value and so on.
 #[cycle(evaluation)]
-fn eval_pairs(place: &Place, pairs: &[PairExpr], env: &mut Vec<Tree>, work: &mut Work) -> Result<Vec<Tree>, Stop>
+fn eval_pairs(
+    place: &Place,
+    pairs: &[PairExpr],
+    env: &mut Vec<Tree>,
+    work: &mut Work,
+) -> Result<Vec<Tree>, Stop>
     requires within { work.old.cost ≤ place.now.fuel }
     ensures gives { Gives (λ v. v.items) place.now.fuel (eval_pairs (context_of place.now) (pairs_of (map pair pairs.now)) env.old.items [] (work_of work.old)) result (work_of work.new) }
     ensures env { OnOk result (env.new.items ≡ env.old.items) }
@@ -278,7 +346,12 @@ fn eval_pairs(place: &Place, pairs: &[PairExpr], env: &mut Vec<Tree>, work: &mut
 
 /// The properties of an object, in the order written.
 #[cycle(evaluation)]
-fn eval_props(place: &Place, props: &[PropExpr], env: &mut Vec<Tree>, work: &mut Work) -> Result<Vec<Property>, Stop>
+fn eval_props(
+    place: &Place,
+    props: &[PropExpr],
+    env: &mut Vec<Tree>,
+    work: &mut Work,
+) -> Result<Vec<Property>, Stop>
     requires within { work.old.cost ≤ place.now.fuel }
     ensures gives { Gives (λ v. map pair_of v.items) place.now.fuel (eval_props (context_of place.now) (props_of (map prop props.now)) env.old.items [] (work_of work.old)) result (work_of work.new) }
     ensures env { OnOk result (env.new.items ≡ env.old.items) }
@@ -294,7 +367,12 @@ fn eval_props(place: &Place, props: &[PropExpr], env: &mut Vec<Tree>, work: &mut
 
 /// The attributes of an element, in the order written.
 #[cycle(evaluation)]
-fn eval_attrs(place: &Place, attrs: &[PropExpr], env: &mut Vec<Tree>, work: &mut Work) -> Result<Attributes, Stop>
+fn eval_attrs(
+    place: &Place,
+    attrs: &[PropExpr],
+    env: &mut Vec<Tree>,
+    work: &mut Work,
+) -> Result<Attributes, Stop>
     requires within { work.old.cost ≤ place.now.fuel }
     ensures gives { Gives attributes_of place.now.fuel (eval_attrs (context_of place.now) (props_of (map prop attrs.now)) env.old.items no_attributes (work_of work.old)) result (work_of work.new) }
     ensures env { OnOk result (env.new.items ≡ env.old.items) }

@@ -6,14 +6,16 @@ ghost use Rattle.flight_render.specs.Body.{fresh};
 ghost use Rattle.flight_render.specs.Attempt.{item_job, end_job, alone_end, run_for};
 ghost use Rattle.flight_eval.specs.Address.{IsAddressOf};
 ghost use Rattle.flight_eval.specs.Gives.{work_of, Gives};
+ghost use Rattle.flight_eval.specs.Names.{HasAscendingNames};
 ghost use Rattle.flight_eval.specs.Attempted.{IsAttempt, tables_of};
 ghost use Rattle.flight_eval.specs.declared.body.Attempt.TheVariants.{Finished as finished_attempt};
 
 use crate::body::{Attempt, Body, Gave};
+use crate::place::Place;
 use crate::start::{element_body, root_body};
 use crate::stop::Stop;
 use crate::values::{slot_tree, source_end};
-use crate::work::{Place, Work};
+use crate::work::Work;
 use flight_render::{Ground, Job, Root, What};
 use flight_value::{Atom, List, Memory, Shared, Slot, Tables, Tree};
 use std::alloc::Global;
@@ -92,7 +94,13 @@ fn tables_of(alloc: Global, what: &What) -> Result<Shared<Tables>, Memory>
 }
 
 /// An attempt of which one body finished.
-fn finished(alloc: Global, job: &Job, tables: Shared<Tables>, gave: Gave, work: Work) -> Result<Attempt, Memory>
+fn finished(
+    alloc: Global,
+    job: &Job,
+    tables: Shared<Tables>,
+    gave: Gave,
+    work: Work,
+) -> Result<Attempt, Memory>
     ensures { IfOk result (λ attempt. attempt ≡ finished_attempt (record { address = job.now.address; tables = tables; made = work.made.items; gave = gave; cost = work.cost } ∷ [])) }
 {
     let Work { made, cost } = work;
@@ -109,6 +117,7 @@ fn finished(alloc: Global, job: &Job, tables: Shared<Tables>, gave: Gave, work: 
 
 /// An attempt at a job at its address.
 pub fn attempted(alloc: Global, ground: &Ground, job: &Job, fuel: u32) -> Result<Attempt, Memory>
+    requires names { HasAscendingNames ground.now.script }
     requires address { IsAddressOf job.now.what job.now.address }
     ensures { IfOk result (IsAttempt ground.now job.now fuel) }
 {

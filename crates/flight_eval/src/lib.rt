@@ -11,6 +11,7 @@ mod job;
 mod object;
 mod operators;
 mod parts;
+mod place;
 mod sorted;
 mod start;
 mod stop;

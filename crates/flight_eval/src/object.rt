@@ -5,8 +5,9 @@ ghost use Rattle.flight_eval.specs.Object.{pair_of, attributes_of};
 
 use crate::operators::key_of;
 use crate::parts::import_at;
+use crate::place::Place;
 use crate::stop::Stop;
-use crate::work::{Place, Work, make};
+use crate::work::{Work, make};
 use flight_syntax::Tag;
 use flight_value::{Atom, MadeKind, Memory, Text, Tree};
 use std::alloc::Global;
@@ -26,7 +27,13 @@ pub struct Attributes {
 }
 
 /// Adds an attribute: `key` is to be a text or a whole, and is no property.
-pub fn with_attribute(place: &Place, attrs: Attributes, name: &Text, value: Tree, work: &Work) -> Result<Attributes, Stop>
+pub fn with_attribute(
+    place: &Place,
+    attrs: Attributes,
+    name: &Text,
+    value: Tree,
+    work: &Work,
+) -> Result<Attributes, Stop>
     requires within { work.now.cost ≤ place.now.fuel }
     ensures { Gives attributes_of place.now.fuel (with_attribute (attributes_of attrs) name.now value (work_of work.now)) result (work_of work.now) }
 {
@@ -53,7 +60,12 @@ fn with_child(alloc: Global, attrs: Attributes, child: Tree) -> Result<Attribute
 }
 
 /// Adds the children of an element: one stands for itself, and more are a new array.
-pub fn with_children(place: &Place, attrs: Attributes, children: Vec<Tree>, work: &mut Work) -> Result<Attributes, Stop>
+pub fn with_children(
+    place: &Place,
+    attrs: Attributes,
+    children: Vec<Tree>,
+    work: &mut Work,
+) -> Result<Attributes, Stop>
     requires within { work.old.cost ≤ place.now.fuel }
     ensures { Gives attributes_of place.now.fuel (with_children (context_of place.now) (attributes_of attrs) children.items (work_of work.old)) result (work_of work.new) }
 {
@@ -80,7 +92,13 @@ fn tag_tree(place: &Place, tag: &Tag) -> Result<Tree, Memory>
 }
 
 /// Makes an element of a tag, a key and the props.
-pub fn make_tagged(place: &Place, tag: &Tag, key: Tree, props: Tree, work: &mut Work) -> Result<Tree, Stop>
+pub fn make_tagged(
+    place: &Place,
+    tag: &Tag,
+    key: Tree,
+    props: Tree,
+    work: &mut Work,
+) -> Result<Tree, Stop>
     requires within { work.old.cost ≤ place.now.fuel }
     ensures { Gives (λ t. t) place.now.fuel (make_tagged (context_of place.now) tag.now key props (work_of work.old)) result (work_of work.new) }
 {
@@ -97,7 +115,12 @@ pub fn make_tagged(place: &Place, tag: &Tag, key: Tree, props: Tree, work: &mut 
 }
 
 /// Makes an array, the promise of it, and a server reference bound to that promise.
-pub fn make_bound(place: &Place, action: u32, slots: Vec<Tree>, work: &mut Work) -> Result<Tree, Stop>
+pub fn make_bound(
+    place: &Place,
+    action: u32,
+    slots: Vec<Tree>,
+    work: &mut Work,
+) -> Result<Tree, Stop>
     requires within { work.old.cost ≤ place.now.fuel }
     ensures { Gives (λ t. t) place.now.fuel (make_bound (context_of place.now) action slots.items (work_of work.old)) result (work_of work.new) }
 {

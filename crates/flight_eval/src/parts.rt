@@ -1,4 +1,5 @@
-ghost use Rattle.std.specs.Prelude.{◌≡◌, ◌≤◌, IfOk, slice_get, unwrap_or, position, bytes_eq};
+ghost use Rattle.std.specs.Prelude.{◌≡◌, ◌≤◌, IfOk, map, slice_get, unwrap_or, position, bytes_eq};
+ghost use Rattle.flight_value.specs.Graph.{Ascend};
 ghost use Rattle.flight_value.specs.declared.graph.Atom.TheVariants.{Import as import_atom};
 ghost use Rattle.flight_value.specs.declared.made.Tree.TheVariants.{Atom as atom_tree, Promise as promise_tree, Stream as stream_tree};
 ghost use Rattle.flight_render.specs.Run.{and_then, ends, fail, give};
@@ -6,18 +7,26 @@ ghost use Rattle.flight_render.specs.Values.{items_in, property_in, source_named
 ghost use Rattle.flight_render.specs.Operators.{operated, thrown, type_digest};
 ghost use Rattle.flight_render.specs.Eval.{known, give_atom, give_or_fail, item_at};
 ghost use Rattle.flight_eval.specs.Gives.{work_of, context_of, Gives};
+ghost use Rattle.flight_eval.specs.Names.{HasAscendingNames};
 
 use crate::operators::{operated, thrown, throws};
+use crate::place::Place;
 use crate::stop::Stop;
 use crate::values::{copy_tree, items_in, property_in, source_end};
-use crate::work::{Place, Work, pay, weight};
+use crate::work::{Work, pay, weight};
 use flight_render::Ground;
 use flight_syntax::{Data, Declared, Flowing, Op};
 use flight_value::{Atom, Memory, Text, Tree};
 use std::alloc::Global;
 
 /// An operator other than `&&` and `||` on two values. A text that it makes costs its bytes.
-pub fn give_operated(place: &Place, op: Op, x: &Tree, y: &Tree, work: &mut Work) -> Result<Tree, Stop>
+pub fn give_operated(
+    place: &Place,
+    op: Op,
+    x: &Tree,
+    y: &Tree,
+    work: &mut Work,
+) -> Result<Tree, Stop>
     requires within { work.old.cost ≤ place.now.fuel }
     ensures { Gives (λ t. t) place.now.fuel (give_atom (operated op x.now y.now) (work_of work.old)) result (work_of work.new) }
 {
@@ -104,22 +113,20 @@ pub fn throw(place: &Place, value: Tree, work: &Work) -> Result<Tree, Stop>
     Err(Stop::Threw(thrown(place.alloc, value)?))
 }
 
-/// The position of a source of a name, among sources.
+/// The position of a source of a name, among sources that ascend by their names.
 fn source_at(sources: &[Data], name: &str) -> Option<usize>
+    requires { Ascend (map (λ d. d.name) sources.now) }
     ensures { result ≡ position (λ d. bytes_eq name.now d.name) sources.now }
 {
-    let mut at = 0;
-    for data in sources {
-        if name == data.name.as_str() {
-            return Some(at);
-        }
-        at += 1;
+    match sources.binary_search_by(|data| data.name.as_str().cmp(name)) {
+        Ok(at) => Some(at),
+        Err(_) => None,
     }
-    None
 }
 
 /// The position of a source of a name.
 fn source_named(ground: &Ground, name: &str) -> Result<Option<u32>, Memory>
+    requires { HasAscendingNames ground.now.script }
     ensures { IfOk result (λ at. at ≡ source_named ground.now name.now) }
 {
     match source_at(ground.script.sources.as_slice(), name) {
@@ -131,22 +138,20 @@ fn source_named(ground: &Ground, name: &str) -> Result<Option<u32>, Memory>
     }
 }
 
-/// The position of a stream of a name, among streams.
+/// The position of a stream of a name, among streams that ascend by their names.
 fn stream_at(streams: &[Flowing], name: &str) -> Option<usize>
-    ensures { result ≡ position (λ d. bytes_eq name.now d.name) streams.now }
+    requires { Ascend (map (λ f. f.name) streams.now) }
+    ensures { result ≡ position (λ f. bytes_eq name.now f.name) streams.now }
 {
-    let mut at = 0;
-    for flowing in streams {
-        if name == flowing.name.as_str() {
-            return Some(at);
-        }
-        at += 1;
+    match streams.binary_search_by(|flowing| flowing.name.as_str().cmp(name)) {
+        Ok(at) => Some(at),
+        Err(_) => None,
     }
-    None
 }
 
 /// The position of a stream of a name.
 fn stream_named(ground: &Ground, name: &str) -> Result<Option<u32>, Memory>
+    requires { HasAscendingNames ground.now.script }
     ensures { IfOk result (λ at. at ≡ stream_named ground.now name.now) }
 {
     match stream_at(ground.script.streams.as_slice(), name) {

@@ -9,9 +9,10 @@ ghost use Rattle.flight_eval.specs.Gives.{work_of, context_of, Gives};
 
 use crate::eval::eval;
 use crate::operators::throws;
+use crate::place::Place;
 use crate::stop::Stop;
 use crate::values::{items_in, made_at, property_in, slot_tree};
-use crate::work::{Place, Work, pay, weight};
+use crate::work::{Work, pay, weight};
 use flight_render::Root;
 use flight_syntax::{Declared, Expr};
 use flight_value::{Atom, Graph, List, Made, MadeKind, Memory, Name, Shared, Text, Tree};
@@ -70,7 +71,12 @@ fn run_body(place: &Place, body: &Expr, env: Vec<Tree>, work: &mut Work) -> Resu
 }
 
 /// The body of a component, by the position of its declaration.
-fn component_body(place: &Place, component: usize, props: &Tree, work: &mut Work) -> Result<Tree, Stop>
+fn component_body(
+    place: &Place,
+    component: usize,
+    props: &Tree,
+    work: &mut Work,
+) -> Result<Tree, Stop>
     requires fresh { work_of work.old ≡ fresh }
     ensures { Gives (λ t. t) place.now.fuel (run_start (context_of place.now) (component_start place.now.over.now place.now.tables.now.made (slice_get place.now.over.now.program.declared component) props.now)) result (work_of work.new) }
 {

@@ -1,4 +1,5 @@
-ghost use Rattle.std.specs.Prelude.{◌≡◌, [], IfOk};
+ghost use Rattle.std.specs.Prelude.{◌≡◌, ◌∷◌, [], IfOk, map, codes};
+ghost use Rattle.flight_eval.specs.Names.{HasAscendingNames};
 ghost use Rattle.flight_eval.specs.Address.{IsAddressOf};
 
 use crate::body::{Attempt, Body, Gave};
@@ -253,7 +254,9 @@ fn program(alloc: Global, words: &str) -> Result<Expr, Memory> {
 
 // ---- what is rendered over
 
-fn text(alloc: Global, text: &str) -> Result<Text, Memory> {
+fn text(alloc: Global, text: &str) -> Result<Text, Memory>
+    ensures { IfOk result (λ t. t ≡ text.now) }
+{
     Text::new(alloc, text)
 }
 
@@ -292,42 +295,76 @@ fn object(alloc: Global, value: Atom) -> Result<Graph, Memory> {
     graph(alloc, Slot::Node(0), Some(Node::Object(List::new(props))))
 }
 
-fn data(alloc: Global, name: &str, outcome: Outcome) -> Result<Data, Memory> {
+fn data(alloc: Global, name: &str, outcome: Outcome) -> Result<Data, Memory>
+    ensures { IfOk result (λ d. d.name ≡ name.now) }
+{
     let name = text(alloc, name)?;
     Ok(Data { name, outcome })
 }
 
+/// A source of a slot alone.
+fn alone(alloc: Global, name: &str, atom: Atom) -> Result<Data, Memory>
+    ensures { IfOk result (λ d. d.name ≡ name.now) }
+{
+    data(
+        alloc,
+        name,
+        Outcome::Value(graph(alloc, Slot::Atom(atom), None)?),
+    )
+}
+
 /// `a` is 7, `b` fails with `no`, `c` is an array, `d` an object, and `e` is 9.
-fn sources(alloc: Global) -> Result<Vec<Data>, Memory> {
-    let mut sources = Vec::new(alloc);
-    let seven = graph(alloc, Slot::Atom(Atom::Whole(7)), None)?;
-    sources.push(data(alloc, "a", Outcome::Value(seven))?)?;
-    let digest = text(alloc, "no")?;
-    sources.push(data(alloc, "b", Outcome::Reject(digest))?)?;
+fn sources(alloc: Global) -> Result<Vec<Data>, Memory>
+    ensures { IfOk result (λ all. map (λ d. d.name) all.items ≡ codes "a" ∷ codes "b" ∷ codes "c" ∷ codes "d" ∷ codes "e" ∷ []) }
+{
+    let seven = alone(alloc, "a", Atom::Whole(7))?;
+    let failed = data(alloc, "b", Outcome::Reject(text(alloc, "no")?))?;
     let array = two(alloc, Atom::Whole(1), Atom::Text(text(alloc, "x")?))?;
-    sources.push(data(alloc, "c", Outcome::Value(array))?)?;
-    let object = object(alloc, Atom::Whole(1))?;
-    sources.push(data(alloc, "d", Outcome::Value(object))?)?;
-    let nine = graph(alloc, Slot::Atom(Atom::Whole(9)), None)?;
-    sources.push(data(alloc, "e", Outcome::Value(nine))?)?;
-    Ok(sources)
+    let array = data(alloc, "c", Outcome::Value(array))?;
+    let object = data(alloc, "d", Outcome::Value(object(alloc, Atom::Whole(1))?))?;
+    let nine = alone(alloc, "e", Atom::Whole(9))?;
+    Ok(vec![in alloc; seven, failed, array, object, nine]?)
+}
+
+fn flowing(
+    alloc: Global,
+    name: &str,
+    flow: Flow,
+    items: Vec<u32>,
+    last: Option<u32>,
+) -> Result<Flowing, Memory>
+    ensures { IfOk result (λ f. f.name ≡ name.now) }
+{
+    Ok(Flowing {
+        name: text(alloc, name)?,
+        flow,
+        items: List::new(items),
+        last,
+    })
 }
 
 /// `f` has the items `a`, `b` and ends with `c`, and `g` has none.
-fn streams(alloc: Global) -> Result<Vec<Flowing>, Memory> {
-    let full = Flowing {
-        name: text(alloc, "f")?,
-        flow: Flow::Readable,
-        items: List::new(vec![in alloc; 0, 1]?),
-        last: Some(2),
-    };
-    let empty = Flowing {
-        name: text(alloc, "g")?,
-        flow: Flow::Iterator,
-        items: List::new(Vec::new(alloc)),
-        last: None,
-    };
+fn streams(alloc: Global) -> Result<Vec<Flowing>, Memory>
+    ensures { IfOk result (λ all. map (λ f. f.name) all.items ≡ codes "f" ∷ codes "g" ∷ []) }
+{
+    let items = vec![in alloc; 0, 1]?;
+    let full = flowing(alloc, "f", Flow::Readable, items, Some(2))?;
+    let empty = flowing(alloc, "g", Flow::Iterator, Vec::new(alloc), None)?;
     Ok(vec![in alloc; full, empty]?)
+}
+
+/// The script of these sources and streams.
+#[tactic(auto, using(crate::proofs::Letters::letters_ascend))]
+fn script(alloc: Global) -> Result<Script, Memory>
+    ensures { IfOk result (λ script. HasAscendingNames script) }
+{
+    let sources = sources(alloc)?;
+    let streams = streams(alloc)?;
+    Ok(Script {
+        sources: List::new(sources),
+        streams: List::new(streams),
+        settlers: List::new(Vec::new(alloc)),
+    })
 }
 
 /// `App` with a body, a component `Item` of `a` and `b`, a client component and an action of `x` and `y`.
@@ -355,16 +392,13 @@ fn declared(alloc: Global, body: &str) -> Result<Vec<Declared>, Memory> {
     Ok(declared)
 }
 
-fn over(alloc: Global, body: &str, root: Root) -> Result<Ground, Memory> {
+fn over(alloc: Global, body: &str, root: Root) -> Result<Ground, Memory>
+    ensures { IfOk result (λ g. HasAscendingNames g.script) }
+{
+    let declared = List::new(declared(alloc, body)?);
     Ok(Ground {
-        program: Program {
-            declared: List::new(declared(alloc, body)?),
-        },
-        script: Script {
-            sources: List::new(sources(alloc)?),
-            streams: List::new(streams(alloc)?),
-            settlers: List::new(Vec::new(alloc)),
-        },
+        program: Program { declared },
+        script: script(alloc)?,
         root,
     })
 }
@@ -468,8 +502,15 @@ fn shown(alloc: Global, attempt: &Attempt) -> Result<String, Memory> {
 // ---- attempts
 
 /// An attempt with all sources settled but `e`.
-fn tried(alloc: Global, over: &Ground, address: Shared<List<u32>>, what: What, fuel: u32) -> Result<String, Memory>
-    requires { IsAddressOf what address }
+fn tried(
+    alloc: Global,
+    over: &Ground,
+    address: Shared<List<u32>>,
+    what: What,
+    fuel: u32,
+) -> Result<String, Memory>
+    requires names { HasAscendingNames over.now.script }
+    requires address { IsAddressOf what address }
 {
     let seen = Seen {
         settled: List::new(vec![in alloc; true, true, true, true, false]?),
@@ -494,7 +535,8 @@ fn top(alloc: Global) -> Result<Shared<List<u32>>, Memory>
 
 /// An attempt at a root, or at a job that is no component's body.
 fn tried_at_top(alloc: Global, over: &Ground, what: What, fuel: u32) -> Result<String, Memory>
-    requires { IsAddressOf what [] }
+    requires names { HasAscendingNames over.now.script }
+    requires address { IsAddressOf what [] }
 {
     tried(alloc, over, top(alloc)?, what, fuel)
 }
@@ -522,10 +564,22 @@ fn operates_within_limits(rt: HostRuntime) -> Result<(), Fail> {
             ("94906265 94906265 *", "= 9007199136250225, 4"),
             ("94906266 94906266 *", "! range, 3"),
             ("4611686018427387904 2 *", "! range, 3"),
-            ("170141183460469231731687303715884105726n 1n +", "= 170141183460469231731687303715884105727n, 4"),
-            ("170141183460469231731687303715884105727n 1n +", "! range, 3"),
-            ("-170141183460469231731687303715884105727n 1n -", "= -170141183460469231731687303715884105728n, 4"),
-            ("-170141183460469231731687303715884105728n 1n -", "! range, 3"),
+            (
+                "170141183460469231731687303715884105726n 1n +",
+                "= 170141183460469231731687303715884105727n, 4",
+            ),
+            (
+                "170141183460469231731687303715884105727n 1n +",
+                "! range, 3",
+            ),
+            (
+                "-170141183460469231731687303715884105727n 1n -",
+                "= -170141183460469231731687303715884105728n, 4",
+            ),
+            (
+                "-170141183460469231731687303715884105728n 1n -",
+                "! range, 3",
+            ),
             ("1 1n +", "! type, 3"),
             ("'ab 'c +", "= 'abc, 10"),
             ("'n -5 +", "= 'n-5, 10"),
@@ -576,7 +630,10 @@ fn evaluates_in_order(rt: HostRuntime) -> Result<(), Fail> {
             ("5 $0 $0 + let", "= 10, 6"),
             ("5 paren", "= 5, 2"),
             ("1 2 [2 $0 1 + for", "Array(1 2) Array(2 3) = #0.1, 15"),
-            ("3 1 2 [2 $1 $0 + for let", "Array(1 2) Array(4 5) = #0.1, 17"),
+            (
+                "3 1 2 [2 $1 $0 + for let",
+                "Array(1 2) Array(4 5) = #0.1, 17",
+            ),
             ("1 [1 5 $1 let for $0 let", "Array(1) Array(5) = #0.1, 11"),
         ],
     )
@@ -614,11 +671,23 @@ fn makes_nodes(rt: HostRuntime) -> Result<(), Fail> {
             ("1 !3,1", "Array(1) Promise(#0.0) Bound 3(#0.1) = #0.2, 6"),
             ("<$0", "Object() Server 0(null #0.0) = #0.1, 5"),
             ("<div", "Object() Element('div null #0.0) = #0.1, 8"),
-            ("<@2", "Object() Element(&{\"id\":\"b\"} null #0.0) = #0.1, 5"),
-            ("<*", "Object() Element(@react.suspense null #0.0) = #0.1, 5"),
+            (
+                "<@2",
+                "Object() Element(&{\"id\":\"b\"} null #0.0) = #0.1, 5",
+            ),
+            (
+                "<*",
+                "Object() Element(@react.suspense null #0.0) = #0.1, 5",
+            ),
             ("5 <div,key", "Object() Element('div '5 #0.0) = #0.1, 10"),
-            ("'k 1 'hi <div,key,n/1", "Object children n('hi 1) Element('div 'k #0.0) = #0.1, 25"),
-            ("1 2 <div/2", "Array(1 2) Object children(#0.0) Element('div null #0.1) = #0.2, 21"),
+            (
+                "'k 1 'hi <div,key,n/1",
+                "Object children n('hi 1) Element('div 'k #0.0) = #0.1, 25",
+            ),
+            (
+                "1 2 <div/2",
+                "Array(1 2) Object children(#0.0) Element('div null #0.1) = #0.2, 21",
+            ),
         ],
     )
 }
@@ -666,7 +735,9 @@ fn tables(alloc: Global) -> Result<Shared<Tables>, Memory> {
 }
 
 /// An attempt at a node of these tables, or at one so many levels deeper.
-fn tried_element(alloc: Global, over: &Ground, level: usize, serial: u32) -> Result<String, Memory> {
+fn tried_element(alloc: Global, over: &Ground, level: usize, serial: u32) -> Result<String, Memory>
+    requires names { HasAscendingNames over.now.script }
+{
     let mut items = Vec::new(alloc);
     for _ in 0..level {
         items.push(0)?;
@@ -685,7 +756,10 @@ fn attempts_each_kind_of_job(rt: HostRuntime) -> Result<(), Fail> {
     let root = tried_at_top(alloc, &over, What::Root, 100)?;
     assert!(rt; root.as_str() == "= 3, 4", "{root}");
     let element = tried_element(alloc, &over, 0, 1)?;
-    assert!(rt; element.as_str() == "Array(5 undefined) = #1.0, 6", "{element}");
+    assert!(rt;
+        element.as_str() == "Array(5 undefined) = #1.0, 6",
+        "{element}"
+    );
     let object = tried_element(alloc, &over, 0, 0)?;
     assert!(rt; object.as_str() == "! type, 0", "{object}");
     let slot = Slot::Node(0);

@@ -5,11 +5,14 @@ ghost use Rattle.flight_syntax.specs.declared.script.Outcome.TheVariants.{Value 
 ghost use Rattle.flight_eval.specs.Seen.{seen_of, items_of, slot_tree};
 ghost use Rattle.flight_eval.specs.Gives.{work_of, Gives};
 
+use crate::place::Place;
 use crate::stop::Stop;
-use crate::work::{Place, Work};
+use crate::work::Work;
 use flight_render::{Ground, Root};
 use flight_syntax::Outcome;
-use flight_value::{Atom, Graph, List, Made, MadeKind, Memory, Name, Node, Prop, Shared, Slot, Text, Tree};
+use flight_value::{
+    Atom, Graph, List, Made, MadeKind, Memory, Name, Node, Prop, Shared, Slot, Text, Tree,
+};
 use std::alloc::Global;
 
 /// What a source comes to, in place.
@@ -91,7 +94,11 @@ pub fn outcome_at(ground: &Ground, number: u32) -> Option<Found<'_>>
 }
 
 /// The node of a name, among the tables and the nodes of the own body behind them.
-pub fn made_at<'a>(tables: &'a [Shared<List<Made>>], own: &'a [Made], name: &Name) -> Option<&'a Made>
+pub fn made_at<'a>(
+    tables: &'a [Shared<List<Made>>],
+    own: &'a [Made],
+    name: &Name,
+) -> Option<&'a Made>
     ensures { option_copied result ≡ made_in (tables.now ++ own.now ∷ []) name.now }
 {
     let level = name.render.get().as_slice().len();
@@ -247,7 +254,12 @@ fn node_property(graph: &Graph, source: u32, name: &str, node: u32) -> Result<Op
 }
 
 /// A property of an object, by its value.
-pub fn property_in(place: &Place, own: &[Made], name: &str, value: &Tree) -> Result<Option<Tree>, Memory>
+pub fn property_in(
+    place: &Place,
+    own: &[Made],
+    name: &str,
+    value: &Tree,
+) -> Result<Option<Tree>, Memory>
     ensures { IfOk result (λ t. t ≡ property_in place.now.over.now (place.now.tables.now.made ++ own.now ∷ []) name.now value.now) }
 {
     match value {

@@ -4,29 +4,15 @@ ghost use Rattle.flight_render.specs.Eval.{make_here};
 ghost use Rattle.flight_eval.specs.declared.stop.Stop.TheVariants.{OverFuel};
 ghost use Rattle.flight_eval.specs.Gives.{work_of, context_of, Gives};
 
+use crate::place::Place;
 use crate::stop::Stop;
-use flight_render::Ground;
-use flight_syntax::Seen;
-use flight_value::{Atom, List, Made, MadeKind, Name, Shared, Tables, Text, Tree};
-use std::alloc::Global;
+use flight_value::{Atom, List, Made, MadeKind, Name, Text, Tree};
 
 /// The nodes that a body made so far, in the order of making, and its cost so far.
 #[derive(Drop)]
 pub struct Work {
     pub made: Vec<Made>,
     pub cost: u32,
-}
-
-/// Where a body is evaluated: over what, with which sources settled, at which address, with which tables, and up
-/// to which cost.
-#[derive(Clone, Copy)]
-pub struct Place<'a> {
-    pub alloc: Global,
-    pub over: &'a Ground,
-    pub seen: &'a Seen,
-    pub address: &'a Shared<List<u32>>,
-    pub tables: &'a Tables,
-    pub fuel: u32,
 }
 
 /// Charges an amount.

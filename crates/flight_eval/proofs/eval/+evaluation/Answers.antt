@@ -139,19 +139,23 @@ eval_pairs-returns-in_err-value-clause-gives t c =
 pub eval_pairs-loop-pair-preserved : goal.eval_pairs-loop-pair-preserved
 eval_pairs-loop-pair-preserved t c =
     let same = c.in_ok-value.ensures.env ∙ c.in_ok-key.ensures.env in
-    let pushed = c.in_ok-push-2.ensures.items ∙ ap (λ z. z ++ c.in_ok-value.value ∷ []) c.in_ok-push.ensures.items ∙ append_assoc c.loop-pair.slots.items (c.in_ok-key.key ∷ []) (c.in_ok-value.value ∷ []) in
-    ( ap (λ z. eval_pairs (context_of c.args.place.now) (pairs_of (map pair (drop (c.loop-pair.pair-index + 1) c.args.pairs.now))) z c.push-in-loop-pair.new.self.items (work_of c.eval-in-loop-pair.new.work)) same
-      ∙ pairs_step (context_of c.args.place.now) c.args.pairs.now c.loop-pair.pair-index c.pair-item.result c.in_ok-key.key c.in_ok-value.value c.loop-pair.env.items c.loop-pair.slots.items c.push-in-loop-pair.new.self.items (work_of c.loop-pair.work) (work_of c.eval.new.work) (work_of c.eval-in-loop-pair.new.work) (omega arith) c.pair-item.is c.in_ok-key.ensures.gives.0 (subst (λ z. eval (context_of c.args.place.now) (term c.pair-item.result.value) z (work_of c.eval.new.work) ≡ ends (gave c.in_ok-value.value) (work_of c.eval-in-loop-pair.new.work)) c.in_ok-key.ensures.env c.in_ok-value.ensures.gives.0) pushed
-      ∙ c.loop-pair.invariant.0
-    , c.in_ok-value.ensures.gives.1, same ∙ c.loop-pair.invariant.2)
+    let pushed = c.in_ok-push-2.ensures.items ∙ ap (λ z. z ++ c.in_ok-value.value ∷ []) c.in_ok-push.ensures.items ∙ append_assoc c.loop-pair.slots.items (c.in_ok-key.key ∷ []) (c.in_ok-value.value ∷ []) in (
+      ap (λ z. eval_pairs (context_of c.args.place.now) (pairs_of (map pair (drop (c.loop-pair.pair-index + 1) c.args.pairs.now))) z c.push-in-loop-pair.new.self.items (work_of c.eval-in-loop-pair.new.work)) same
+          ∙ pairs_step (context_of c.args.place.now) c.args.pairs.now c.loop-pair.pair-index c.pair-item.result c.in_ok-key.key c.in_ok-value.value c.loop-pair.env.items c.loop-pair.slots.items c.push-in-loop-pair.new.self.items (work_of c.loop-pair.work) (work_of c.eval.new.work) (work_of c.eval-in-loop-pair.new.work) (omega arith) c.pair-item.is c.in_ok-key.ensures.gives.0 (subst (λ z. eval (context_of c.args.place.now) (term c.pair-item.result.value) z (work_of c.eval.new.work) ≡ ends (gave c.in_ok-value.value) (work_of c.eval-in-loop-pair.new.work)) c.in_ok-key.ensures.env c.in_ok-value.ensures.gives.0) pushed
+          ∙ c.loop-pair.invariant.0,
+      c.in_ok-value.ensures.gives.1,
+      same ∙ c.loop-pair.invariant.2,
+    )
 
 pub eval_props-loop-prop-preserved : goal.eval_props-loop-prop-preserved
 eval_props-loop-prop-preserved t c =
-    let pushed = ap (map pair_of) c.in_ok-push.ensures.items ∙ map-append pair_of c.loop-prop.values.items _ ∙ ap (λ z. map pair_of c.loop-prop.values.items ++ (z, c.in_ok-value.value) ∷ []) c.in_ok-name.ensures.cases in
-    ( ap (λ z. eval_props (context_of c.args.place.now) (props_of (map prop (drop (c.loop-prop.prop-index + 1) c.args.props.now))) z (map pair_of c.push.new.self.items) (work_of c.eval.new.work)) c.in_ok-value.ensures.env
-      ∙ props_step (context_of c.args.place.now) c.args.props.now c.loop-prop.prop-index c.prop-item.result c.in_ok-value.value c.loop-prop.env.items (map pair_of c.loop-prop.values.items) (map pair_of c.push.new.self.items) (work_of c.loop-prop.work) (work_of c.eval.new.work) (omega arith) c.prop-item.is c.in_ok-value.ensures.gives.0 pushed
-      ∙ c.loop-prop.invariant.0
-    , c.in_ok-value.ensures.gives.1, c.in_ok-value.ensures.env ∙ c.loop-prop.invariant.2)
+    let pushed = ap (map pair_of) c.in_ok-push.ensures.items ∙ map-append pair_of c.loop-prop.values.items _ ∙ ap (λ z. map pair_of c.loop-prop.values.items ++ (z, c.in_ok-value.value) ∷ []) c.in_ok-name.ensures.cases in (
+      ap (λ z. eval_props (context_of c.args.place.now) (props_of (map prop (drop (c.loop-prop.prop-index + 1) c.args.props.now))) z (map pair_of c.push.new.self.items) (work_of c.eval.new.work)) c.in_ok-value.ensures.env
+          ∙ props_step (context_of c.args.place.now) c.args.props.now c.loop-prop.prop-index c.prop-item.result c.in_ok-value.value c.loop-prop.env.items (map pair_of c.loop-prop.values.items) (map pair_of c.push.new.self.items) (work_of c.loop-prop.work) (work_of c.eval.new.work) (omega arith) c.prop-item.is c.in_ok-value.ensures.gives.0 pushed
+          ∙ c.loop-prop.invariant.0,
+      c.in_ok-value.ensures.gives.1,
+      c.in_ok-value.ensures.env ∙ c.loop-prop.invariant.2,
+    )
 
 pub eval_attrs-returns-in_err-so_far-clause-gives : goal.eval_attrs-returns-in_err-so_far-clause-gives
 eval_attrs-returns-in_err-so_far-clause-gives t c =
@@ -161,8 +165,10 @@ eval_attrs-returns-in_err-so_far-clause-gives t c =
     (named_stop c.args.place.now.fuel (context_of c.args.place.now) c.in_err-so_far.field-0.0 c.args.attrs.now c.loop-attr.attr-index c.attr-item.result c.in_ok-value.value c.loop-attr.env.items (attributes_of c.loop-attr.so_far) (work_of c.loop-attr.work) (work_of c.eval.new.work) (omega arith) c.attr-item.is c.in_ok-value.ensures.gives.0 c.in_err-so_far.ensures))
 
 pub eval_attrs-loop-attr-preserved : goal.eval_attrs-loop-attr-preserved
-eval_attrs-loop-attr-preserved t c =
-    ( ap (λ z. eval_attrs (context_of c.args.place.now) (props_of (map prop (drop (c.loop-attr.attr-index + 1) c.args.attrs.now))) z (attributes_of c.in_ok-so_far.so_far) (work_of c.eval.new.work)) c.in_ok-value.ensures.env
+eval_attrs-loop-attr-preserved t c = (
+  ap (λ z. eval_attrs (context_of c.args.place.now) (props_of (map prop (drop (c.loop-attr.attr-index + 1) c.args.attrs.now))) z (attributes_of c.in_ok-so_far.so_far) (work_of c.eval.new.work)) c.in_ok-value.ensures.env
       ∙ attrs_step (context_of c.args.place.now) c.args.attrs.now c.loop-attr.attr-index c.attr-item.result c.in_ok-value.value c.loop-attr.env.items (attributes_of c.loop-attr.so_far) (attributes_of c.in_ok-so_far.so_far) (work_of c.loop-attr.work) (work_of c.eval.new.work) (omega arith) c.attr-item.is c.in_ok-value.ensures.gives.0 c.in_ok-so_far.ensures.0
-      ∙ c.loop-attr.invariant.0
-    , c.in_ok-value.ensures.gives.1, c.in_ok-value.ensures.env ∙ c.loop-attr.invariant.2)
+      ∙ c.loop-attr.invariant.0,
+  c.in_ok-value.ensures.gives.1,
+  c.in_ok-value.ensures.env ∙ c.loop-attr.invariant.2,
+)
