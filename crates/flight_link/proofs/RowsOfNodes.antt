@@ -63,14 +63,17 @@ node_drawn rows keys g v r drawn m h =
     let old = node_at g.nodes m in
     let d = drawn.each m old (get_node g.nodes m (below_in (length g.nodes) m v r.below h)) in
     let slots = slots_of-map_slots (renamed v) old in
-    let long : length (slots_of (map_slots (renamed v) old)) ≡ length (slots_of old) = ap length slots ∙ length-map (slots_of old) (renamed v) in
-    (d.0, d.1, record {
-      shape = d.2.shape;
-      stands = d.2.stands;
-      label = label_of-map_slots (renamed v) old ∙ d.2.label;
-      slots = subst (λ ss. AllZip (Draws rows (map (key_of keys) v)) ss d.2.shape.slots) (sym slots) (all_met_draw rows keys v (slots_of old) d.2.shape.slots (r.all_met m h) d.2.slots);
-      few = omega (arith, long, d.2.few);
-    })
+    let long : length (slots_of (map_slots (renamed v) old)) ≡ length (slots_of old) = ap length slots ∙ length-map (slots_of old) (renamed v) in (
+      d.0,
+      d.1,
+      record {
+        shape = d.2.shape;
+        stands = d.2.stands;
+        label = label_of-map_slots (renamed v) old ∙ d.2.label;
+        slots = subst (λ ss. AllZip (Draws rows (map (key_of keys) v)) ss d.2.shape.slots) (sym slots) (all_met_draw rows keys v (slots_of old) d.2.shape.slots (r.all_met m h) d.2.slots);
+        few = omega (arith, long, d.2.few);
+      },
+    )
 
 each_drawn : (rows : List PlacedRow) (keys : List NodeKey) (g : Graph) (v : List ℕ) → Reaches g v [] → AreDrawn rows keys g.nodes → AreDrawn rows (map (key_of keys) v) (map (new_node g v) v)
 each_drawn rows keys g v r drawn = record {
