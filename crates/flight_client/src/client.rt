@@ -4,6 +4,7 @@ ghost use Rattle.flight_value.specs.Store.{DrawOneGraph, of_graph};
 ghost use Rattle.flight_place.specs.Meaning.{meaning};
 ghost use Rattle.flight_place.specs.Good.{IsGood};
 ghost use Rattle.flight_link.specs.Looking.{IsSeen};
+ghost use Rattle.flight_link.specs.Origins.{AreOrigins};
 ghost use Rattle.flight_client.specs.Rows.{IsWhole};
 ghost use Rattle.flight_client.specs.Faults.{EndsWithFault};
 ghost use Rattle.flight_client.specs.Held.{HasTaken};
@@ -14,7 +15,7 @@ use crate::fault::ClientFault;
 use crate::piece::take;
 use flight_feed::Feed;
 use flight_link::{Links, Seen};
-use flight_value::{Graph, Memory};
+use flight_value::{Graph, List, Memory};
 use std::alloc::Global;
 use std::marker::Model;
 
@@ -84,6 +85,13 @@ impl Client {
         ensures { IfOk result (λ g. IsValid g × DrawOneGraph (of_graph g) (meaning self.now.rows)) }
     {
         self.links.graph(alloc)
+    }
+
+    /// For each node of the canon of [`Client::partial`], in order, the id of the row that holds it.
+    pub fn origins(&self, alloc: Global) -> Result<List<u32>, Memory>
+        ensures { IfOk result (AreOrigins self.now.rows) }
+    {
+        self.links.origins(alloc)
     }
 
     /// Ends the stream: the graph that its rows mean, where they are good. Else the fault that was kept, or a row that

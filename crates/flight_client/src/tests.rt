@@ -151,9 +151,11 @@ fn shows_what_has_come(rt: HostRuntime) -> Result<(), Fail> {
     let partial = client.partial(rt.alloc())?;
     let pending = look(&partial, [0].as_slice());
     assert!(rt; matches!(pending, Some(Label::Atom(Atom::Pending))));
+    assert!(rt; client.origins(rt.alloc())?.as_slice() == [0].as_slice());
     assert!(rt; client.feed(b"3:{\"a\":[]}\n".as_slice()) == Ok(()));
     let mark = array_at(&client, [0].as_slice());
     assert!(rt; mark.is_some());
+    assert!(rt; client.origins(rt.alloc())?.as_slice() == [0, 3].as_slice());
     assert!(rt; client.feed(b"4:1\n".as_slice()) == Ok(()));
     assert!(rt; array_at(&client, [0].as_slice()) == mark);
     Ok(())

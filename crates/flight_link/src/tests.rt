@@ -259,12 +259,15 @@ fn draws_failures_met_on_a_walk(rt: HostRuntime) -> Result<(), Fail> {
     }
     let graph = links.graph(rt.alloc())?;
     let text = canon_text(rt.alloc(), &graph)?;
+    let origins = links.origins(rt.alloc())?;
     let wanted = "root #0
 #0 array [failed \"no\",failed \"no\",failed \"no\",failed \"no\",#1,\"$$x\",import {\"a\":\"$1\",\"b\":1},pending]
 #1 promise failed \"no\"
 ";
     assert!(rt; text.as_str() == wanted);
     assert!(rt; links.undefined() == Some(3));
+    // The promise comes from row 1.
+    assert!(rt; origins.as_slice() == [0, 1].as_slice());
     Ok(())
 }
 
