@@ -59,7 +59,7 @@ read_is_valid text script_text ds script p s form =
     let g : Ground = record { program = record { declared = ds }; script = script; root = App } in
     let behind = nil_right (repeated [] (faults.components p.all)) _ p.faultless in
     record {
-      each = each_lawful g p.all p.means p.all ds p.means (text_literals most_levels text p.tokens p.all p.are_tokens p.declares) (text_imports text p.tokens p.all p.declares) (nil_right (repeated [] (faults.actions p.all)) _ behind) (names_there g script_text s);
+      each = each_lawful g p.all p.means p.all ds p.means (text_literals most_levels text p.tokens p.all p.are_tokens p.declares) (text_imports text p.tokens p.all p.are_tokens p.declares) (nil_right (repeated [] (faults.actions p.all)) _ behind) (names_there g script_text s);
       one_component = subst NoneTwice (sym (components_same p.all p.all ds p.means)) (none_twice [] (faults.components p.all) (nil_left (repeated [] (faults.components p.all)) _ p.faultless));
       one_action = subst NoneTwice (sym (actions_same p.all p.all ds p.means)) (none_twice [] (faults.actions p.all) (nil_left (repeated [] (faults.actions p.all)) _ behind));
       has_app = server_of (codes "App") p.all p.all ds p.means p.app;
