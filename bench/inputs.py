@@ -155,7 +155,6 @@ WRITERS = {
     "behind": lambda out, size, draw: write_chain(out, size, lambda row: f'["${row:x}"]', False),
     "aliases": lambda out, size, draw: write_chain(out, size, lambda row: f'"${row:x}"', True),
 }
-ONE_ROW = ("numbers", "objects", "text")
 # Mean bytes of an item, its references included.
 ITEM_BYTES = {"numbers": NUMBER_BYTES, "objects": OBJECT_BYTES, "mixed": 433, "texts": 22_000, "rows": 61,
               "ahead": 16, "behind": 16, "aliases": 16}

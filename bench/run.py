@@ -4,8 +4,6 @@
 usage: bench/run.py [--peer COMMAND] [--runs N] [--sizes 8,16,32,60] [--shapes NAME,NAME ..] [--seed N]
                     [--inputs FOLDER] [--markdown]
 
-Without --shapes it takes those of one row, which is what `view` reads today.
-
 It makes the proved build first (bin/build), writes the inputs (inputs.py; into FOLDER, where they stay, or into a folder
 that is removed), and runs `view` on each, its output into the null device. Before the measured runs comes one whose output is
 kept as a checksum: with --peer, a command line to which `view` is added, it must be the peer's.
@@ -161,7 +159,7 @@ def main():
     parser.add_argument("--peer")
     parser.add_argument("--runs", type=int, default=3)
     parser.add_argument("--sizes", type=inputs.numbers_in, default=list(inputs.SIZES))
-    parser.add_argument("--shapes", type=inputs.shapes_in, default=list(inputs.ONE_ROW))
+    parser.add_argument("--shapes", type=inputs.shapes_in, default=list(inputs.WRITERS))
     parser.add_argument("--seed", type=int, default=1)
     parser.add_argument("--inputs", help="a folder in which the inputs stay")
     parser.add_argument("--markdown", action="store_true", help="the tables as markdown")

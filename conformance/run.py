@@ -5,8 +5,9 @@ usage: conformance/run.py [PROGRAM] [FILE ..] [--jobs N] [--seconds N] [--show N
 
 PROGRAM is a command line, as 'node other-flight.mjs'; a case's words are put behind it. Without it the proved build of
 this repository is made by bin/build, and that one is run. A FILE ends in .jsonl and has one case a line, or in .rows and
-is the input of `view`, or in .bundle and is that of `run`; their output stands beside them in .txt. Without files,
-those beside this script and those in examples/ are run. README.md here says more.
+is the input of `view`, or in .bundle and is that of `plain`; their output stands beside them in .txt. Without files,
+those beside this script and those in examples/ are run. Each case of `view` is run with other values of --cut too.
+README.md here says more.
 
 Last come the line 'N cases, M mismatches' and the line 'N passed, M failed'. Status 0: every case was answered as it
 says; 1: not so, or there was none; 2: nothing could be run.
@@ -25,8 +26,10 @@ import sys
 HERE = pathlib.Path(__file__).resolve().parent
 TOP = HERE.parent
 # The command whose input an example is, and the status of an output that is no graph.
-EXAMPLES = {".rows": ("view", 3), ".bundle": ("run", 2)}
+EXAMPLES = {".rows": ("view", 3), ".bundle": ("plain", 2)}
 ENDINGS = (".jsonl", *EXAMPLES)
+# The lengths of pieces with which each case of `view` is run besides.
+CUTS = (1, 7, 65_536)
 # How many bytes of an input or output a mismatch shows.
 SHOWN = 300
 
@@ -44,6 +47,15 @@ def example(path):
     output = given.with_suffix(".txt").read_bytes()
     command, refused = EXAMPLES[given.suffix]
     return Case(given.stem, [command], given.read_bytes(), output, 0 if output.startswith(b"root ") else refused)
+
+
+def with_cuts(case):
+    """The case, and of one of `view` whose words are lawful the same with other cuts: the answer hangs on none."""
+    yield case
+    command, *options = case.words or [""]
+    if command == "view" and case.status != 1 and (not options or (len(options) == 2 and options[0] == "--cut")):
+        for cut in CUTS:
+            yield case._replace(name=f"{case.name} --cut {cut}", words=["view", "--cut", str(cut)])
 
 
 def cases_of(path):
@@ -111,7 +123,7 @@ def main():
     if strange:
         give_up(f"a file of cases ends in {', '.join(ENDINGS)}, and {strange[0]} does not")
     try:
-        cases = [case for path in files for case in cases_of(path)]
+        cases = [cut for path in files for case in cases_of(path) for cut in with_cuts(case)]
     except OSError as fault:
         give_up(str(fault))
     program = program or proved_build()

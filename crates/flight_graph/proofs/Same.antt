@@ -54,7 +54,7 @@ never_in m (x ∷ v) zero d h =
 never_in m (x ∷ v) (suc p) d h = never_in m v p d.1 h
 
 -- a node has one place
-one_place : (v : List ℕ) (p q m : ℕ) → IsDistinct nat_eq v → slice_get v p ≡ Some m → slice_get v q ≡ Some m → p ≡ q
+pub one_place : (v : List ℕ) (p q m : ℕ) → IsDistinct nat_eq v → slice_get v p ≡ Some m → slice_get v q ≡ Some m → p ≡ q
 unfolding IsDistinct
 one_place [] p q m d h k = absurd (none-some m h)
 one_place (x ∷ v) zero zero m d h k = refl
@@ -131,7 +131,7 @@ states-map f end.Going = refl
 states-map f (end.Closed s) = refl
 states-map f (end.Broken digest) = refl
 
-label_of-map_slots : (f : Slot → Slot) (n : Node) → label_of (map_slots f n) ≡ label_of n
+pub label_of-map_slots : (f : Slot → Slot) (n : Node) → label_of (map_slots f n) ≡ label_of n
 label_of-map_slots f (node.Array items) = refl
 label_of-map_slots f (node.Object props) = ap object (names-map f props)
 label_of-map_slots f (node.Map pairs) = refl
@@ -146,7 +146,7 @@ stands [] n within = absurd (omega (arith, within))
 stands (x ∷ nodes) zero within = refl
 stands (x ∷ nodes) (suc n) within = stands nodes n (omega (arith, within))
 
-in_at : (v : List ℕ) (p m : ℕ) → slice_get v p ≡ Some m → In m v
+pub in_at : (v : List ℕ) (p m : ℕ) → slice_get v p ≡ Some m → In m v
 in_at [] p m h = absurd (none-some m h)
 in_at (x ∷ v) zero m h = inl (sym (some_same x m h))
 in_at (x ∷ v) (suc p) m h = inr (in_at v p m h)

@@ -37,3 +37,4 @@ pub use law::{canon_is_valid, same_by_pairs};
 pub use print::canon_text;
 pub use rename::canon;
 pub use sight::look;
+pub use walk::visited;

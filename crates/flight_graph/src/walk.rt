@@ -3,7 +3,7 @@ ghost use Rattle.flight_value.specs.Graph.{IsValid, slots_of, end_slots};
 ghost use Rattle.flight_graph.specs.Canon.{node_at, visited_of};
 ghost use Rattle.flight_graph.specs.Walk.{IsKept, IsUnvisited, NamesBelow, Visits, named_by, named, reached, reached_with, turns_left};
 
-use flight_value::{End, Graph, Memory, Node, Pair, Prop, Slot};
+use flight_value::{End, Graph, List, Memory, Node, Pair, Prop, Slot};
 use std::alloc::Global;
 
 /// A walk through a graph.
@@ -30,6 +30,15 @@ pub fn visit_all(alloc: Global, graph: &Graph) -> Result<Walk, Memory>
         meet(&mut walk, nodes, node)?;
     }
     Ok(walk)
+}
+
+/// The nodes that the root of a valid graph leads to, in the order of a first visit: that of the canon.
+pub fn visited(alloc: Global, graph: &Graph) -> Result<List<u32>, Memory>
+    requires { IsValid graph.now }
+    ensures { IfOk result (λ nodes. nodes ≡ visited_of graph.now) }
+{
+    let walk = visit_all(alloc, graph)?;
+    Ok(List::new(walk.order))
 }
 
 /// A walk that has visited nothing.

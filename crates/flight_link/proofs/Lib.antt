@@ -20,3 +20,4 @@ pub mod Drawing
 pub mod Drawn
 pub mod Valid
 pub mod Actions
+pub mod RowsOfNodes

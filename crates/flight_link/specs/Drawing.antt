@@ -1,5 +1,5 @@
 -- A graph on its way, under keys of nodes.
-use Rattle.std.specs.Prelude.{ℕ, suc, ◌<◌, ◌≤◌, ◌^◌, ◌≡◌, List, [], ◌∷◌, length, slice_get, Some}
+use Rattle.std.specs.Prelude.{ℕ, suc, ◌<◌, ◌≤◌, ◌^◌, ◌≡◌, List, [], ◌∷◌, length, slice_get, Some, unwrap_or}
 use Rattle.std.specs.List.{AllZip}
 use Rattle.flight_value.specs.Graph.{slots_of}
 use Rattle.flight_value.specs.declared.graph.Slot.{Slot}
@@ -7,6 +7,7 @@ use Rattle.flight_value.specs.declared.graph.Slot.TheVariants as slot
 use Rattle.flight_value.specs.declared.graph.Prop.{Prop}
 use Rattle.flight_value.specs.declared.graph.Pair.{Pair}
 use Rattle.flight_value.specs.declared.graph.Node.{Node}
+use Rattle.flight_value.specs.declared.graph.Graph.{Graph}
 use Rattle.flight_value.specs.Store as store
 use Rattle.flight_value.specs.Store.{Shape, label_of}
 use Rattle.flight_place.specs.declared.place.Named.{Named}
@@ -16,6 +17,7 @@ use Rattle.flight_place.specs.Meaning.{Written, at_place, value_of, Identity, ma
 use Rattle.flight_link.specs.declared.key.NodeKey.{NodeKey}
 use Rattle.flight_link.specs.declared.key.NodeKey.TheVariants.{Made, Promise, Action}
 use Rattle.flight_link.specs.declared.draw.Drawing.{Drawing}
+use Rattle.flight_link.specs.Origins.{origin_of}
 
 -- what a key stands for
 abbrev pub identity_of : NodeKey → Identity
@@ -66,7 +68,18 @@ pub record IsDrawing (rows : List PlacedRow) (d : Drawing) : Type 0 where
   pub apart : AreApart d.keys.items
   pub few : length d.nodes.items < 2 ^ 32
 
+abbrev pub graph_in : Drawing → Graph
+graph_in d = record { root = d.root; nodes = d.nodes.items }
+
 -- numbers from i on, with what their keys stand for
 abbrev pub numbered_from : ℕ → List NodeKey → List (ℕ × Identity)
 numbered_from i [] = []
 numbered_from i (key ∷ keys) = (i, identity_of key) ∷ numbered_from (suc i) keys
+
+-- the key of a number; past the keys, which no slot names, some key
+abbrev pub key_of : List NodeKey → ℕ → NodeKey
+key_of keys n = unwrap_or (slice_get keys n) (Promise 0)
+
+-- the id of the row that holds the node of a number
+abbrev pub origin_in : List NodeKey → ℕ → ℕ
+origin_in keys n = origin_of (identity_of (key_of keys n))

@@ -10,9 +10,8 @@ use Rattle.flight_place.specs.declared.place.PlacedRow.{PlacedRow}
 use Rattle.flight_place.specs.Linked.{rows_of, Spot, place_at}
 use Rattle.flight_place.specs.Resolve.{Path, to, found, not_yet, Ends}
 use Rattle.flight_place.specs.Meaning.{Written, value_of, Identity, made_at, promise_of, stream_of, action_of, pending, stand_of, Leads, HasShape}
-use Rattle.flight_graph.specs.declared.label.Kind.{Kind}
-use Rattle.flight_graph.specs.declared.label.Kind.TheVariants as graph_kind
 use Rattle.flight_graph.specs.declared.label.Label.TheVariants as look
+pub use Rattle.flight_graph.specs.Look.{kind_of}
 use Rattle.flight_link.specs.declared.found.Seen.{Seen}
 use Rattle.flight_link.specs.declared.found.Seen.TheVariants as seen
 use Rattle.flight_link.specs.Spots.{IsNumber, IsFirst}
@@ -83,16 +82,6 @@ IsMark rows (action_of id) mark = IsFirst rows (place.Action id) mark
 IsMark rows (stream_of id) mark = ⊥
 
 -- ---- the answer of a look
-
-abbrev pub kind_of : Label → Kind
-kind_of store.array = graph_kind.Array
-kind_of (store.object names) = graph_kind.Object
-kind_of store.map_of = graph_kind.Map
-kind_of store.set_of = graph_kind.Set
-kind_of store.element = graph_kind.Element
-kind_of store.promise = graph_kind.Promise
-kind_of (store.stream flow state) = graph_kind.Stream
-kind_of (store.action id) = graph_kind.Action
 
 abbrev pub IsSeen : List PlacedRow → List ℕ → Seen → Type 0
 IsSeen rows path (seen.Label (look.Atom value)) = Shows rows path (sees_atom value.now)

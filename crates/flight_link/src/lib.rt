@@ -25,6 +25,7 @@ mod mention;
 mod named;
 mod node;
 mod numbers;
+mod origins;
 mod room;
 mod settle;
 mod step;

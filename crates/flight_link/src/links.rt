@@ -8,6 +8,7 @@ ghost use Rattle.flight_place.specs.Good.{IsLeastUndefined};
 ghost use Rattle.flight_link.specs.declared.fault.LinkKind.{LinkKind};
 ghost use Rattle.flight_link.specs.Adding.{is_of_stream as is_of_stream_spec, IsPlaced, MayFollow, IsRefused};
 ghost use Rattle.flight_link.specs.Finding.{IsFound};
+ghost use Rattle.flight_link.specs.Origins.{AreOrigins};
 
 use crate::backlog::Backlog;
 use crate::fault::{LinkFault, LinkKind};
@@ -19,7 +20,7 @@ use crate::table::Table;
 use flight_place::{PlaceTree, PlacedRow};
 use flight_row::RowKind;
 use flight_text::Ref;
-use flight_value::{Graph, Memory};
+use flight_value::{Graph, List, Memory};
 use std::alloc::Global;
 use std::collections::HashMap;
 use std::marker::Model;
@@ -113,6 +114,14 @@ impl Links {
         ensures { IfOk result (λ g. IsValid g × DrawOneGraph (of_graph g) (meaning self.now)) }
     {
         self.table.graph(self.states.as_slice(), alloc)
+    }
+
+    /// For each node of the canon of [`Links::graph`], in order, the id of the row that holds it: of the row of its
+    /// place, and of a promise or a server reference its own.
+    pub fn origins(&self, alloc: Global) -> Result<List<u32>, Memory>
+        ensures { IfOk result (AreOrigins self.now) }
+    {
+        self.table.origins(self.states.as_slice(), alloc)
     }
 
     /// A fact alone: no row was refused.

@@ -1,13 +1,15 @@
--- A script that was read has the form of scripts.
+-- A script that was read has the form that a valid ground asks.
 use Rattle.std.proofs.Common.{◌≡◌, ℕ, zero, suc, ◌^◌, ◌<◌, ◌≤◌, List, [], ◌∷◌, ◌++◌, length, map, refl, sym, ◌∙◌, ap, subst, arith, true, false, Option, Some, None, nat_le, nat_eq, codes}
-use Rattle.std.specs.Prelude.{slice_get, option_and_then, unwrap_or}
-use Rattle.std.specs.Option.{option_map_or, ForSome}
+use Rattle.std.specs.Prelude.{slice_get, option_and_then, unwrap_or, not, Bool, All}
+use Rattle.std.specs.Option.{option_map_or}
 use Rattle.std.specs.List.{AllByRecursion, AllZip, flat_map, list_all, IsDistinct}
 use Rattle.std.specs.Str.{bytes_eq}
 use Rattle.std.proofs.lemmas.Bool.{ltb-true, leb-true, and_parts, not-true, or_parts, eqb-true, false≢true, false_from_ne_true}
+use Rattle.std.proofs.lemmas.Bool.Decides.{Decides-eqb}
 use Rattle.std.proofs.lemmas.Slice.Eq.{bytes_eq-Decides}
 use Rattle.std.proofs.lemmas.List.{length-map}
 use Rattle.std.proofs.lemmas.List.Elements.{All-from_recursion}
+use Rattle.std.proofs.lemmas.Map.Made.{AllPairs-from_IsDistinct}
 use Rattle.serde_json.specs.Data.{Data, null, boolean, number, string, array, object, Members, no_members, member}
 use Rattle.serde_json.specs.Read.{read}
 use Rattle.serde_json.specs.Find.{get}
@@ -19,18 +21,23 @@ use Rattle.flight_syntax.specs.declared.script.Outcome.TheVariants.{Value, Rejec
 use Rattle.flight_syntax.specs.declared.script.Data as source
 use Rattle.flight_syntax.specs.declared.script.Flowing.{Flowing}
 use Rattle.flight_syntax.specs.declared.script.Script.{Script}
-use Rattle.flight_syntax.specs.Form.{IsValidOutcome, HasSources, settled_by, HasForm}
-use Rattle.flight_script.specs.Json.{Member, members, as_list, as_members, list_of, list_at, is_among, text}
-use Rattle.flight_script.specs.Sources.{source_tests, IsOutcome, IsSource}
+use Rattle.flight_syntax.specs.Form.{settled_by}
+use Rattle.flight_syntax.specs.Names.{is_plain_name, is_keyword}
+use Rattle.flight_syntax.specs.Pieces.{is_name}
+use Rattle.flight_syntax.specs.Script as form
+use Rattle.flight_syntax.specs.Script.{IsPlainName, IsSourceNode, IsData, IsFlowing}
+use Rattle.flight_script.specs.Json.{Member, members, as_list, as_members, list_of, list_at, has_only, is_among, text}
+use Rattle.flight_script.specs.Sources.{value_parts, source_tests, IsOutcome, IsSource}
 use Rattle.flight_script.specs.Streams.{stream_tests, IsNumberOf, IsLast, IsStream}
 use Rattle.flight_script.specs.Settlers.{are_settlers, settled_tests, settler_tests, AreSettled}
 use Rattle.flight_script.specs.Program.{program_tests}
-use Rattle.flight_script.specs.Script.{sources_in, streams_in, names, script_tests, tests, IsScript, IsScriptOf}
+use Rattle.flight_script.specs.Script.{is_version, are_named, has_sources, may_have_streams, sources_in, streams_in, names, script_tests, tests, IsScript, IsScriptOf}
 use Rattle.flight_script.specs.Tests.{Test, AllPass}
 use Rattle.flight_script.specs.Counts.{fits, outcome_fits, script_fits}
 use Rattle.flight_script.proofs.Marks.{some≢none}
 use Rattle.flight_script.proofs.Once.{some_one}
 use Rattle.flight_script.proofs.Valid.{get_ordered, zip_length, value_valid}
+use Rattle.flight_script.proofs.Held.{root_held, nodes_held}
 
 -- ---- names
 
@@ -46,19 +53,40 @@ stream_names all [] (s ∷ ss) h = absurd h
 stream_names all (m ∷ ms) [] h = absurd h
 stream_names all (m ∷ ms) (s ∷ ss) h = ap (λ n. n ∷ map (λ s. s.name) ss) h.0.is_name ∙ ap (λ ns. m.0 ∷ ns) (stream_names all ms ss h.1)
 
--- ---- outcomes
+-- ---- plain names
 
-outcome_valid : (d : Data) (o : Outcome) → Ordered d → IsOutcome d o → outcome_fits o ≡ true → IsValidOutcome o
-outcome_valid d (Value g) w h f = value_valid d g w h f
-outcome_valid d (Reject digest) w h f = tt
+is_plain : (name : List ℕ) → is_plain_name name ≡ true → IsPlainName name
+is_plain name h = let parts = and_parts (is_name name) (not (is_keyword name)) h in (parts.0, not-true (is_keyword name) parts.1)
 
-outcomes_valid : (ms : List Member) (ss : List source.Data) → AllByRecursion (λ m. Ordered m.1) ms → AllZip IsSource ms ss → list_all (λ d. outcome_fits d.outcome) ss ≡ true → AllByRecursion (λ s. IsValidOutcome s.outcome) ss
-outcomes_valid [] [] w h f = tt
-outcomes_valid [] (s ∷ ss) w h f = absurd h
-outcomes_valid (m ∷ ms) [] w h f = tt
-outcomes_valid (m ∷ ms) (s ∷ ss) w h f =
+abbrev are_plain : List Member → Bool
+are_plain ms = list_all (λ m. is_plain_name m.0) ms
+
+plain_members : (o : Option (List Member)) → option_map_or are_plain o false ≡ true → are_plain (unwrap_or o []) ≡ true
+plain_members None h = refl
+plain_members (Some ms) h = h
+
+plain_sources : (o : Option Data) → option_map_or are_named o false ≡ true → are_plain (unwrap_or (option_and_then as_members o) []) ≡ true
+plain_sources None h = refl
+plain_sources (Some d) h = plain_members (as_members d) h
+
+plain_streams : (o : Option Data) → option_map_or are_named o true ≡ true → are_plain (unwrap_or (option_and_then as_members o) []) ≡ true
+plain_streams None h = refl
+plain_streams (Some d) h = plain_members (as_members d) h
+
+-- ---- sources
+
+outcome_formed : (d : Data) (o : Outcome) → Ordered d → IsOutcome d o → outcome_fits o ≡ true → form.IsOutcome o
+outcome_formed d (Value g) w h f = record { valid = value_valid d g w h f; root = root_held (value_parts d) g h; nodes = All-from_recursion IsSourceNode g.nodes (nodes_held (value_parts d) g h) }
+outcome_formed d (Reject digest) w h f = tt
+
+sources_formed : (ms : List Member) (ss : List source.Data) → AllByRecursion (λ m. Ordered m.1) ms → are_plain ms ≡ true → AllZip IsSource ms ss → list_all (λ d. outcome_fits d.outcome) ss ≡ true → AllByRecursion IsData ss
+sources_formed [] [] w p h f = tt
+sources_formed [] (s ∷ ss) w p h f = absurd h
+sources_formed (m ∷ ms) [] w p h f = tt
+sources_formed (m ∷ ms) (s ∷ ss) w p h f =
     let parts = and_parts (outcome_fits s.outcome) (list_all (λ d. outcome_fits d.outcome) ss) f in
-    (outcome_valid m.1 s.outcome w.0 h.0.1 parts.0, outcomes_valid ms ss w.1 h.1 parts.1)
+    let plain = and_parts (is_plain_name m.0) (are_plain ms) p in
+    ((subst IsPlainName (sym h.0.0) (is_plain m.0 plain.0), outcome_formed m.1 s.outcome w.0 h.0.1 parts.0), sources_formed ms ss w.1 plain.1 h.1 parts.1)
 
 each_ordered : (ms : Members) → EachOrdered ms → AllByRecursion (λ m. Ordered m.1) (members ms)
 each_ordered no_members h = tt
@@ -93,25 +121,33 @@ numbers_within ns count [] (i ∷ is) e h = absurd h
 numbers_within ns count (d ∷ ds) [] e h = tt
 numbers_within ns count (d ∷ ds) (i ∷ is) e h = (subst (λ c. i < c) e (get_within ns i (text d) h.0), numbers_within ns count ds is e h.1)
 
-last_within : (ns : List (List ℕ)) (count : ℕ) (o : Option Data) (i : Option ℕ) → length ns ≡ count → IsLast ns o i → ForSome i (λ n. n < count)
-last_within ns count o None e h = λ n k. absurd (some≢none n (sym k))
-last_within ns count None (Some i) e h = absurd h
-last_within ns count (Some d) (Some i) e h = λ n k. subst (λ m. m < count) (some_one i n k) (subst (λ c. i < c) e (get_within ns i (text d) h))
+last_within : (ns : List (List ℕ)) (count : ℕ) (o : Option Data) (i : Option ℕ) → length ns ≡ count → IsLast ns o i → (n : ℕ) → i ≡ Some n → n < count
+last_within ns count o None e h n k = absurd (some≢none n (sym k))
+last_within ns count None (Some i) e h n k = absurd h
+last_within ns count (Some d) (Some i) e h n k = subst (λ m. m < count) (some_one i n k) (subst (λ c. i < c) e (get_within ns i (text d) h))
 
-streams_sound : (ns : List (List ℕ)) (count : ℕ) (ms : List Member) (ss : List Flowing) → length ns ≡ count → AllZip (IsStream ns) ms ss → list_all (λ f. fits (length f.items)) ss ≡ true → AllByRecursion (HasSources count) ss
-streams_sound ns count [] [] e h f = tt
-streams_sound ns count [] (s ∷ ss) e h f = absurd h
-streams_sound ns count (m ∷ ms) [] e h f = tt
-streams_sound ns count (m ∷ ms) (s ∷ ss) e h f =
+streams_formed : (ns : List (List ℕ)) (count : ℕ) (ms : List Member) (ss : List Flowing) → length ns ≡ count → are_plain ms ≡ true → AllZip (IsStream ns) ms ss → list_all (λ f. fits (length f.items)) ss ≡ true → AllByRecursion (IsFlowing count) ss
+streams_formed ns count [] [] e p h f = tt
+streams_formed ns count [] (s ∷ ss) e p h f = absurd h
+streams_formed ns count (m ∷ ms) [] e p h f = tt
+streams_formed ns count (m ∷ ms) (s ∷ ss) e p h f =
     let parts = and_parts (fits (length s.items)) (list_all (λ f. fits (length f.items)) ss) f in
-    let one : HasSources count s = record {
+    let plain = and_parts (is_plain_name m.0) (are_plain ms) p in
+    let one : IsFlowing count s = record {
+      named = subst IsPlainName (sym h.0.is_name) (is_plain m.0 plain.0);
       few = ltb-true (length s.items) (2 ^ 32) parts.0;
       items = All-from_recursion (λ n. n < count) s.items (numbers_within ns count (list_at (codes "items") m.1) s.items e h.0.are_items);
       last = last_within ns count (get (codes "final") m.1) s.last e h.0.is_last;
     } in
-    (one, streams_sound ns count ms ss e h.1 parts.1)
+    (one, streams_formed ns count ms ss e plain.1 h.1 parts.1)
 
 -- ---- settlers
+
+settlers_within : (ns : List (List ℕ)) (count : ℕ) (ds : List Data) (own : List (List ℕ)) → length ns ≡ count → AllZip (AreSettled ns) ds own → AllByRecursion (All (λ n. n < count)) own
+settlers_within ns count [] [] e h = tt
+settlers_within ns count [] (o ∷ own) e h = absurd h
+settlers_within ns count (d ∷ ds) [] e h = tt
+settlers_within ns count (d ∷ ds) (o ∷ own) e h = (All-from_recursion (λ n. n < count) o (numbers_within ns count (list_of d) o e h.0), settlers_within ns count ds own e h.1)
 
 zip-append : {A B : Type 0} (R : A → B → Type 0) (xs us : List A) (ys vs : List B) → AllZip R xs ys → AllZip R us vs → AllZip R (xs ++ us) (ys ++ vs)
 zip-append R [] us [] vs h k = k
@@ -169,32 +205,35 @@ all_parts : (ts us : List Test) → AllPass (ts ++ us) → AllPass ts × AllPass
 all_parts [] us h = (tt, h)
 all_parts (t ∷ ts) us h = let rest = all_parts ts us h.1 in ((h.0, rest.0), rest.1)
 
-form_of : (d : Data) (declared : List Declared) (s : Script) → Ordered d → AllPass (script_tests d declared) → IsScript d s → script_fits s ≡ true → HasForm s
+form_of : (d : Data) (declared : List Declared) (s : Script) → Ordered d → AllPass (script_tests d declared) → IsScript d s → script_fits s ≡ true → form.IsScript s
 form_of d declared s w pass h f =
     let ns = names (sources_in d) in
     let a = and_parts (fits (length s.sources)) _ f in
     let b = and_parts (fits (length s.streams)) _ a.1 in
     let c = and_parts (list_all (λ d. outcome_fits d.outcome) s.sources) (list_all (λ f. fits (length f.items)) s.streams) b.1 in
+    let named = and_parts (is_version d) _ (and_parts (has_only (codes "version" ∷ codes "sources" ∷ codes "streams" ∷ codes "settlers" ∷ []) d) _ pass.0).1 in
+    let both = and_parts (has_sources d) (may_have_streams d) named.1 in
     let behind_sources = all_parts (flat_map source_tests (sources_in d)) _ pass.1 in
     let behind_streams = all_parts (flat_map (stream_tests ns) (streams_in d)) _ behind_sources.1 in
     let settling = all_parts (settler_tests ns d) (program_tests ns (names (streams_in d)) declared) behind_streams.1 in
     let count : length ns ≡ length s.sources = length-map (sources_in d) (λ m. m.0) ∙ zip_length IsSource (sources_in d) s.sources h.sources in
-    let numbers = flat_zip ns (list_at (codes "settlers") d) s.settlers h.settlers in
-    let lists = zip_length (AreSettled ns) (list_at (codes "settlers") d) s.settlers h.settlers in
+    let settlers = list_at (codes "settlers") d in
+    let numbers = flat_zip ns settlers s.settlers h.settlers in
+    let lists = zip_length (AreSettled ns) settlers s.settlers h.settlers in
     let ordered = found_ordered (get (codes "sources") d) (λ e k. get_ordered (codes "sources") d e w k) in
     record {
       few_sources = ltb-true (length s.sources) (2 ^ 32) a.0;
       few_streams = ltb-true (length s.streams) (2 ^ 32) b.0;
+      sources = subst Ascend (sym (source_names (sources_in d) s.sources h.sources)) h.sources_ascend;
+      each_source = All-from_recursion IsData s.sources (sources_formed (sources_in d) s.sources ordered (plain_sources (get (codes "sources") d) both.0) h.sources c.0);
+      streams = subst Ascend (sym (stream_names ns (streams_in d) s.streams h.streams)) h.streams_ascend;
+      each_stream = All-from_recursion (IsFlowing (length s.sources)) s.streams (streams_formed ns (length s.sources) (streams_in d) s.streams count (plain_streams (get (codes "streams") d) both.1) h.streams c.1);
       few_settlers = subst (λ n. n ≤ 64) lists (few_settlers (get (codes "settlers") d) settling.0.0);
-      sources_ascend = subst Ascend (sym (source_names (sources_in d) s.sources h.sources)) h.sources_ascend;
-      streams_ascend = subst Ascend (sym (stream_names ns (streams_in d) s.streams h.streams)) h.streams_ascend;
-      outcomes = All-from_recursion (λ s. IsValidOutcome s.outcome) s.sources (outcomes_valid (sources_in d) s.sources ordered h.sources c.0);
-      flows = All-from_recursion (HasSources (length s.sources)) s.streams (streams_sound ns (length s.sources) (streams_in d) s.streams count h.streams c.1);
-      settled = All-from_recursion (λ n. n < length s.sources) (settled_by s) (numbers_within ns (length s.sources) (flat_map list_of (list_at (codes "settlers") d)) (settled_by s) count numbers);
-      once = (settled_once ns [] (flat_map list_of (list_at (codes "settlers") d)) (settled_by s) settling.0.1 numbers).0;
+      each_settler = All-from_recursion (All (λ n. n < length s.sources)) s.settlers (settlers_within ns (length s.sources) settlers s.settlers count h.settlers);
+      once = AllPairs-from_IsDistinct Decides-eqb (settled_by s) (settled_once ns [] (flat_map list_of settlers) (settled_by s) settling.0.1 numbers).0;
     }
 
 -- a script whose counts fit has the form
-pub has_form : (bytes : List ℕ) (declared : List Declared) (s : Script) → IsScriptOf bytes declared s → script_fits s ≡ true → HasForm s
+pub has_form : (bytes : List ℕ) (declared : List Declared) (s : Script) → IsScriptOf bytes declared s → script_fits s ≡ true → form.IsScript s
 has_form bytes declared s h f =
     form_of h.json declared s (if_ordered (read bytes) h.json (read-ordered bytes) h.is_read) (subst (λ o. AllPass (tests o declared)) h.is_read h.all_pass) h.is_script f

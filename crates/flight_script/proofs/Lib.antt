@@ -10,4 +10,5 @@ pub mod Assembling
 pub mod Seeing
 pub mod Once
 pub mod Valid
+pub mod Held
 pub mod Formed

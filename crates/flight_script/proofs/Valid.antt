@@ -75,7 +75,7 @@ mark_valid count text (mark.Symbol name) s sp h = subst (IsValidSlot count) (som
 mark_valid count text mark.Undefined s sp h = subst (IsValidSlot count) (some_one (slot.Atom atom.Undefined) s h) tt
 mark_valid count text (mark.Constant c) s sp h = subst (IsValidSlot count) (some_one (slot.Atom (atom.Constant c)) s h) tt
 
-pub slot_valid : (count : ℕ) (d : Data) (s : Slot) → IsSlot count d s → IsValidSlot count s
+slot_valid : (count : ℕ) (d : Data) (s : Slot) → IsSlot count d s → IsValidSlot count s
 slot_valid count null s h = subst (IsValidSlot count) (sym h) tt
 slot_valid count (boolean b) s h = subst (IsValidSlot count) (sym h) tt
 slot_valid count (number x) s h = number_valid count (whole_of x) s (whole_safe x) h
@@ -83,27 +83,40 @@ slot_valid count (string t) s h = mark_valid count t h.0 s h.1 h.2
 slot_valid count (array ds) s h = absurd h
 slot_valid count (object ms) s h = absurd h
 
-zip_valid : (count : ℕ) (ds : List Data) (ss : List Slot) → AllZip (IsSlot count) ds ss → AllByRecursion (IsValidSlot count) ss
-zip_valid count [] [] h = tt
-zip_valid count [] (s ∷ ss) h = absurd h
-zip_valid count (d ∷ ds) [] h = tt
-zip_valid count (d ∷ ds) (s ∷ ss) h = (slot_valid count d s h.0, zip_valid count ds ss h.1)
+-- what holds of each slot that JSON is
 
-each_valid : (count : ℕ) (o : Option (List Data)) (ss : List Slot) → Each (IsSlot count) o ss → AllByRecursion (IsValidSlot count) ss
-each_valid count None ss h = absurd h
-each_valid count (Some ds) ss h = zip_valid count ds ss h
+abbrev pub OfSlots : ℕ → (Slot → Type 0) → Type 0
+OfSlots count P = (d : Data) (s : Slot) → IsSlot count d s → P s
 
-props_valid : (count : ℕ) (ms : List Member) (ps : List Prop) → AllZip (IsProp count) ms ps → AllByRecursion (IsValidSlot count) (map (λ p. p.slot) ps)
-props_valid count [] [] h = tt
-props_valid count [] (p ∷ ps) h = absurd h
-props_valid count (m ∷ ms) [] h = tt
-props_valid count (m ∷ ms) (p ∷ ps) h = (slot_valid count m.1 p.slot h.0.1, props_valid count ms ps h.1)
+zip_each : (count : ℕ) (P : Slot → Type 0) → OfSlots count P → (ds : List Data) (ss : List Slot) → AllZip (IsSlot count) ds ss → AllByRecursion P ss
+zip_each count P f [] [] h = tt
+zip_each count P f [] (s ∷ ss) h = absurd h
+zip_each count P f (d ∷ ds) [] h = tt
+zip_each count P f (d ∷ ds) (s ∷ ss) h = (f d s h.0, zip_each count P f ds ss h.1)
 
-pairs_valid : (count : ℕ) (ds : List Data) (ps : List Pair) → AllZip (IsPair count) ds ps → AllByRecursion (IsValidSlot count) (flat_map (λ p. p.key ∷ p.value ∷ []) ps)
-pairs_valid count [] [] h = tt
-pairs_valid count [] (p ∷ ps) h = absurd h
-pairs_valid count (d ∷ ds) [] h = tt
-pairs_valid count (d ∷ ds) (p ∷ ps) h = let own = each_valid count (as_list d) (p.key ∷ p.value ∷ []) h.0 in (own.0, (own.1.0, pairs_valid count ds ps h.1))
+pub slots_each : (count : ℕ) (P : Slot → Type 0) → OfSlots count P → (o : Option (List Data)) (ss : List Slot) → Each (IsSlot count) o ss → AllByRecursion P ss
+slots_each count P f None ss h = absurd h
+slots_each count P f (Some ds) ss h = zip_each count P f ds ss h
+
+zip_props : (count : ℕ) (P : Slot → Type 0) → OfSlots count P → (ms : List Member) (ps : List Prop) → AllZip (IsProp count) ms ps → AllByRecursion P (map (λ p. p.slot) ps)
+zip_props count P f [] [] h = tt
+zip_props count P f [] (p ∷ ps) h = absurd h
+zip_props count P f (m ∷ ms) [] h = tt
+zip_props count P f (m ∷ ms) (p ∷ ps) h = (f m.1 p.slot h.0.1, zip_props count P f ms ps h.1)
+
+pub props_each : (count : ℕ) (P : Slot → Type 0) → OfSlots count P → (o : Option (List Member)) (ps : List Prop) → Each (IsProp count) o ps → AllByRecursion P (map (λ p. p.slot) ps)
+props_each count P f None ps h = absurd h
+props_each count P f (Some ms) ps h = zip_props count P f ms ps h
+
+zip_pairs : (count : ℕ) (P : Slot → Type 0) → OfSlots count P → (ds : List Data) (ps : List Pair) → AllZip (IsPair count) ds ps → AllByRecursion P (flat_map (λ p. p.key ∷ p.value ∷ []) ps)
+zip_pairs count P f [] [] h = tt
+zip_pairs count P f [] (p ∷ ps) h = absurd h
+zip_pairs count P f (d ∷ ds) [] h = tt
+zip_pairs count P f (d ∷ ds) (p ∷ ps) h = let own = slots_each count P f (as_list d) (p.key ∷ p.value ∷ []) h.0 in (own.0, (own.1.0, zip_pairs count P f ds ps h.1))
+
+pub pairs_each : (count : ℕ) (P : Slot → Type 0) → OfSlots count P → (o : Option (List Data)) (ps : List Pair) → Each (IsPair count) o ps → AllByRecursion P (flat_map (λ p. p.key ∷ p.value ∷ []) ps)
+pairs_each count P f None ps h = absurd h
+pairs_each count P f (Some ds) ps h = zip_pairs count P f ds ps h
 
 pairs_length : (ps : List Pair) → length (flat_map (λ p. p.key ∷ p.value ∷ []) ps) ≡ length ps + length ps
 pairs_length [] = refl
@@ -155,31 +168,23 @@ in_ascends count (Some d) ps w h = object_ascends count d ps (w d refl) h
 
 -- ---- nodes and graphs
 
-in_valid : (count : ℕ) (o : Option (List Member)) (ps : List Prop) → Each (IsProp count) o ps → AllByRecursion (IsValidSlot count) (map (λ p. p.slot) ps)
-in_valid count None ps h = absurd h
-in_valid count (Some ms) ps h = props_valid count ms ps h
-
-map_valid : (count : ℕ) (o : Option (List Data)) (ps : List Pair) → Each (IsPair count) o ps → AllByRecursion (IsValidSlot count) (flat_map (λ p. p.key ∷ p.value ∷ []) ps)
-map_valid count None ps h = absurd h
-map_valid count (Some ds) ps h = pairs_valid count ds ps h
-
 node_valid : (nodes : List Node) (count : ℕ) (d : Data) (n : Node) → count ≡ length nodes → Ordered d → IsNode count d n → node_fits n ≡ true → IsValidNode nodes n
 node_valid nodes count d (node.Array ss) e w h f =
-    record { few = ltb-true (length ss) (2 ^ 32) f; slots = All-from_recursion (IsValidSlot (length nodes)) ss (subst (λ c. AllByRecursion (IsValidSlot c) ss) e (each_valid count (list_in (codes "array") d) ss h)); kind = tt }
+    record { few = ltb-true (length ss) (2 ^ 32) f; slots = All-from_recursion (IsValidSlot (length nodes)) ss (subst (λ c. AllByRecursion (IsValidSlot c) ss) e (slots_each count (IsValidSlot count) (slot_valid count) (list_in (codes "array") d) ss h)); kind = tt }
 node_valid nodes count d (node.Object ps) e w h f =
     record {
       few = subst (λ k. k < 2 ^ 32) (sym (length-map ps (λ p. p.slot))) (ltb-true (length ps) (2 ^ 32) f);
-      slots = All-from_recursion (IsValidSlot (length nodes)) (map (λ p. p.slot) ps) (subst (λ c. AllByRecursion (IsValidSlot c) (map (λ p. p.slot) ps)) e (in_valid count (members_in (codes "object") d) ps h));
+      slots = All-from_recursion (IsValidSlot (length nodes)) (map (λ p. p.slot) ps) (subst (λ c. AllByRecursion (IsValidSlot c) (map (λ p. p.slot) ps)) e (props_each count (IsValidSlot count) (slot_valid count) (members_in (codes "object") d) ps h));
       kind = in_ascends count (only (codes "object") d) ps (λ x k. get_ordered (codes "object") d x w (if_some (member_count d == 1) (get (codes "object") d) x k)) h;
     }
 node_valid nodes count d (node.Map ps) e w h f =
     record {
       few = few_pairs ps (2 ^ 31) (ltb-true (length ps) (2 ^ 31) f);
-      slots = All-from_recursion (IsValidSlot (length nodes)) (flat_map (λ p. p.key ∷ p.value ∷ []) ps) (subst (λ c. AllByRecursion (IsValidSlot c) (flat_map (λ p. p.key ∷ p.value ∷ []) ps)) e (map_valid count (list_in (codes "map") d) ps h));
+      slots = All-from_recursion (IsValidSlot (length nodes)) (flat_map (λ p. p.key ∷ p.value ∷ []) ps) (subst (λ c. AllByRecursion (IsValidSlot c) (flat_map (λ p. p.key ∷ p.value ∷ []) ps)) e (pairs_each count (IsValidSlot count) (slot_valid count) (list_in (codes "map") d) ps h));
       kind = tt;
     }
 node_valid nodes count d (node.Set ss) e w h f =
-    record { few = ltb-true (length ss) (2 ^ 32) f; slots = All-from_recursion (IsValidSlot (length nodes)) ss (subst (λ c. AllByRecursion (IsValidSlot c) ss) e (each_valid count (list_in (codes "set") d) ss h)); kind = tt }
+    record { few = ltb-true (length ss) (2 ^ 32) f; slots = All-from_recursion (IsValidSlot (length nodes)) ss (subst (λ c. AllByRecursion (IsValidSlot c) ss) e (slots_each count (IsValidSlot count) (slot_valid count) (list_in (codes "set") d) ss h)); kind = tt }
 node_valid nodes count d (node.Element t k p) e w h f = absurd h
 node_valid nodes count d (node.Promise o) e w h f = absurd h
 node_valid nodes count d (node.Stream l i x) e w h f = absurd h

@@ -5,8 +5,8 @@
 //! one, its streams, its settlers, and at last the names that the program has behind `use`, `promise` and
 //! `stream`. The first fault is that of the first test that does not pass. Which script a text is, is a relation
 //! (`specs/Script.antt`), and no text has two scripts or two first faults, or both ([`one_script`]). A script that
-//! was read has the form of scripts (`specs/Form.antt` of `flight_syntax`): its graphs are valid, names ascend,
-//! and no source is settled twice.
+//! was read has the form that a rendering asks (`specs/Script.antt` of `flight_syntax`): its graphs are valid and
+//! hold what a source may hold, names ascend and are no keywords, and no source is settled twice.
 //!
 //! Scripts are this project's own format. Their strings are model strings (React 19.0, `parseModelString` of
 //! ReactFlightClient), and their numbers have 53 bits at most.

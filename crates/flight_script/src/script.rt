@@ -2,8 +2,8 @@ ghost use Rattle.std.specs.Prelude.{◌≡◌, ◌⊎◌, [], Some, None, IsUtf8
 ghost use Rattle.std.specs.List.{list_all};
 ghost use Rattle.serde_json.specs.Read.{read};
 ghost use Rattle.serde_json.specs.View.{view};
-ghost use Rattle.flight_syntax.specs.Form.{HasForm};
 ghost use Rattle.flight_syntax.specs.Names.{is_plain_name};
+ghost use Rattle.flight_syntax.specs.Script as syntax;
 ghost use Rattle.flight_script.specs.Entries.{entries};
 ghost use Rattle.flight_script.specs.Script.{is_version, are_named, has_sources, may_have_streams, is_script, members_at, script_tests, tests, IsScript, IsScriptOf};
 ghost use Rattle.flight_script.specs.Tests.{AllPass, Refuses};
@@ -28,7 +28,7 @@ use std::str;
 pub fn read_script(alloc: Global, bytes: &[u8], program: &Program) -> Result<Script, ScriptFault>
     requires { IsUtf8 bytes.now }
     ensures is { IfOk result (IsScriptOf bytes.now program.now.declared) }
-    ensures form { IfOk result HasForm }
+    ensures form { IfOk result syntax.IsScript }
     ensures err { IfErr result (Refuses (tests (read bytes.now) program.now.declared)) }
 {
     let script = parsed(alloc, utf8(bytes))?;

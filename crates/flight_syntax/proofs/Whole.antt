@@ -18,10 +18,10 @@ rest_real : (y z : List Word) → AreReal (y ++ z) → AreReal z
 rest_real [] z h = h
 rest_real (w ∷ y) z h = rest_real y z h.1
 
-left : {x : List Word} (y z : List Word) → x ≡ y ++ z → AreReal x → AreReal y
+pub left : {x : List Word} (y z : List Word) → x ≡ y ++ z → AreReal x → AreReal y
 left {x} y z e r = front_real y z (subst AreReal e r)
 
-right : {x : List Word} (y z : List Word) → x ≡ y ++ z → AreReal x → AreReal z
+pub right : {x : List Word} (y z : List Word) → x ≡ y ++ z → AreReal x → AreReal z
 right {x} y z e r = rest_real y z (subst AreReal e r)
 
 not_deep : (w : Word) → is_deep w ≡ Some tt → IsReal w → ⊥

@@ -30,7 +30,7 @@ mod word;
 
 pub use expr::{Expr, Op, PairExpr, PropExpr, Tag};
 pub use lex::{one_reading, tokens};
-pub use name::is_plain_name;
+pub use name::{is_lower, is_plain_name};
 pub use program::{Declared, Program};
 pub use script::{Data, Flowing, Outcome, Script, Seen};
 pub use token::{LexFault, LexKind, Lexed, Token, TokenKind};

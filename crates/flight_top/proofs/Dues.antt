@@ -1,34 +1,19 @@
--- What is due: one payload a row, and what follows for the refusals.
+-- What is due: what follows for the refusals.
 use Rattle.std.proofs.Common.{◌≡◌, ℕ, ◌+◌, ◌<◌, ◌≤◌, List, [], ◌∷◌, ◌++◌, length, map, slice_index_or, refl, sym, ◌∙◌, ap, subst, arith, true, Option, Some, None, string_bytes, replicate, codes, inl, inr}
 use Rattle.std.specs.Prelude.{String, Result, Ok, Err, IfOk}
 use Rattle.flight_top.specs.declared.due.Due.{Due}
 use Rattle.flight_top.specs.declared.due.Undue.{Undue}
 use Rattle.std.specs.declared.alloc.Global.{Global}
-use Rattle.std.proofs.lemmas.List.{append_cancel_left, append_cancel_right, length-replicate}
 use Rattle.flight_base.specs.Outside.{IsAll, IsMore}
-use Rattle.flight_value.specs.declared.graph.Graph.{Graph}
 use Rattle.flight_top.specs.declared.told.Status.{Status}
 use Rattle.flight_top.specs.declared.told.Status.TheVariants as status
-use Rattle.flight_top.specs.Model.{MeansGraph}
-use Rattle.flight_top.specs.OneRow.{IsRowOf, IsOneRow}
 use Rattle.flight_top.specs.Told.{is_whole}
-use Rattle.flight_top.specs.Due.{IsDue, usage, view, run, IsDueView, IsDueViewOf, IsDueRun, IsDueRunOf, most_stream, most_bundle, texts}
-
--- a row has one payload
-pub one_payload : (input p q : List ℕ) → IsRowOf input p → IsRowOf input q → p ≡ q
-one_payload input p q a b =
-    append_cancel_left (codes "0:") p q (append_cancel_right (codes "0:" ++ p) (codes "0:" ++ q) (codes "\n") (sym a.row ∙ b.row))
-
--- a row whose payload means no graph means none
-pub no_graph : (input p : List ℕ) → IsRowOf input p → ((graph : Graph) → MeansGraph p graph → ⊥) → (graph : Graph) → IsOneRow input graph → ⊥
-no_graph input p a none graph (q, b, m) = let P : List ℕ → Type 0 = λ p. MeansGraph p graph in none graph (subst P (sym (one_payload input p q a b)) m)
-
-row_nonempty : (input p : List ℕ) → IsRowOf input p → input ≡ [] → ⊥
-row_nonempty input p a e = let len = ap length (sym e ∙ a.row) in omega (arith, len)
-
--- a row whose payload means no graph is refused
-pub not_built : (input p : List ℕ) → length input ≤ most_stream → IsRowOf input p → ((graph : Graph) → MeansGraph p graph → ⊥) → IsDueView input status.Stream (codes "stream: not built\n")
-not_built input p short a none = inr (inr (row_nonempty input p a, short, no_graph input p a none, refl))
+use Rattle.flight_top.specs.Due.{IsDue, usage, view, plain, run, texts}
+use Rattle.flight_top.proofs.Long.{long_list}
+use Rattle.flight_top.proofs.Plains.{plain-whole}
+use Rattle.flight_top.specs.View.{IsDueView, IsDueViewOf, most_stream}
+use Rattle.flight_top.specs.Plain.{IsPlainWords, IsDuePlainOf}
+use Rattle.flight_top.specs.Run.{IsDueRun, IsDueRunOf, most_bundle}
 
 -- a refusal is due with its own status and line
 pub due_line : (IsOwed : Status → List ℕ → Type 0) (status : Status) (r : Result Due Undue) (line : List ℕ) → IfOk r (λ due. (due.status ≡ status) × (due.text ≡ line)) → IsOwed status line → IfOk r (λ due. IsOwed due.status due.text)
@@ -69,11 +54,8 @@ run-whole input status.Memory text h = absurd h
 pub due-whole : (words : List (List ℕ)) (left : Option (List ℕ)) (s : Status) (text : List ℕ) → IsDue words left s text → is_whole s ≡ true
 due-whole words left s text (usage is_none is_status is_text) = ap is_whole is_status
 due-whole words left s text (view is_view is_due) = view-whole is_due.0 s text is_due.2
+due-whole words left s text (plain fuel is_plain is_due) = plain-whole fuel is_due.0 s text is_due.2
 due-whole words left s text (run is_run is_due) = run-whole is_due.0 s text is_due.2
-
--- there are longer lists
-long_list : (n : ℕ) → (input : List ℕ) × (n < length input)
-long_list n = (replicate (n + 1) 0, rw length-replicate (omega arith))
 
 -- more bytes than a stream may have
 pub too_long : (left : Option (List ℕ)) → IsMore most_stream left → IsDueViewOf left status.Stream (codes "stream: too long\n")
@@ -90,3 +72,8 @@ pub one_word : (words : List (String Global)) (word : String Global) → 1 ≤ l
 one_word [] word least most is_word = absurd (omega arith)
 one_word (a ∷ []) word least most is_word = rw is_word refl
 one_word (a ∷ b ∷ ws) word least most is_word = absurd (omega arith)
+
+-- what is owed for the words of `plain`
+pub due_plain : (words : List (List ℕ)) (left : Option (List ℕ)) (fuel : ℕ) (r : Result Due Undue) → IsPlainWords words fuel → IfOk r (λ due. IsDuePlainOf fuel left due.status due.text) → IfOk r (λ due. IsDue words left due.status due.text)
+due_plain words left fuel (Ok due) is h = plain fuel is h
+due_plain words left fuel (Err e) is h = h

@@ -1,5 +1,7 @@
 pub mod Models
 pub mod Valid
+pub mod Long
+pub mod Plains
 pub mod Dues
 pub mod Fronts
 pub mod StaticNames
@@ -12,3 +14,4 @@ pub mod StaticLines
 pub mod StaticPrograms
 pub mod StaticRows
 pub mod StaticExample
+pub mod OneOption

@@ -3,6 +3,7 @@ use Rattle.std.proofs.Common.{◌≡◌, ◌≢◌, ℕ, zero, suc, ◌+◌, ◌
 use Rattle.std.specs.Prelude.{Contains, not, Result, Ok, Err, IfOk}
 use Rattle.std.specs.Fmt.{digits}
 use Rattle.std.proofs.lemmas.Bool.{false≢true}
+use Rattle.std.proofs.lemmas.List.{append_cancel_left, append_cancel_right}
 use Rattle.std.proofs.lemmas.Bool.Decides.{nat_tests}
 use Rattle.std.proofs.lemmas.Str.{IsUtf8-append, IsUtf8-from_ascii}
 use Rattle.std.proofs.lemmas.Str.Ascii.{IsAscii-cons, IsAscii-nil}
@@ -20,7 +21,11 @@ use Rattle.flight_top.specs.StaticRow.{IsRowJson, IsRootRow, row_of}
 use Rattle.flight_top.specs.declared.model.Refused.{Refused}
 use Rattle.flight_value.specs.declared.memory.Memory.{Memory}
 use Rattle.flight_top.proofs.Fronts.{both}
-use Rattle.flight_top.proofs.Dues.{one_payload}
+
+-- a row has one payload
+one_payload : (input p q : List ℕ) → IsRowOf input p → IsRowOf input q → p ≡ q
+one_payload input p q a b =
+    append_cancel_left (codes "0:") p q (append_cancel_right (codes "0:" ++ p) (codes "0:" ++ q) (codes "\n") (sym a.row ∙ b.row))
 
 abbrev root_with : List ℕ → Row
 root_with payload = record { id = 0; kind = Model; payload = payload }

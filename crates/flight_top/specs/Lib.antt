@@ -1,9 +1,15 @@
 pub mod Model
 pub mod Fine
+pub mod Lines
 pub mod OneRow
 pub mod Told
+pub mod Words
+pub mod View
+pub mod BundleLines
+pub mod Plain
 pub mod Due
 pub mod Static
 pub mod Drawn
 pub mod StaticReader
 pub mod StaticRow
+pub mod Run

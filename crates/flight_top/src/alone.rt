@@ -1,7 +1,7 @@
 ghost use Rattle.std.specs.Prelude.{◌≡◌, ◌↔◌, ◌≢◌, ◌⊎◌, ℕ, List, [], ◌∷◌, true, false, IsTrue};
 ghost use Rattle.flight_base.specs.Outside.{Rose, appended};
 ghost use Rattle.flight_top.specs.Told.{is_whole};
-ghost use Rattle.flight_top.specs.Due.{IsDue, PartOut, DuePartOut, texts, IsCommand};
+ghost use Rattle.flight_top.specs.Due.{IsCommand, IsDue, PartOut, DuePartOut, texts};
 
 use crate::due::{Undue, due_for};
 use crate::told::{Status, Told};

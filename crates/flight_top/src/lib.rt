@@ -2,22 +2,26 @@
 //!
 //! [`flight_alone`] carries the promises of the whole. Its clauses say, by definitions over the words and the
 //! bytes alone (`specs/Due.antt`), which status it tells and which text it appends to the sink, and what is
-//! left where the source or the sink fails. Today there are two commands. `view` is of an input that is one
-//! model row whose JSON refers to no other place (`specs/OneRow.antt`, `specs/Model.antt`). `run` is of a
-//! bundle of one server component whose value is written out (`specs/Static.antt`): it is written as row 0
-//! into a sink over memory, that row is read as `view` reads it, and the text is that of the graph of the
-//! value as it stands in the program (`specs/Drawn.antt`).
+//! left where the source or the sink fails. Today there are three commands. `view` reads any stream of rows through
+//! the client, in pieces of any length (`specs/View.antt`, `specs/Lines.antt`). `plain` renders any bundle
+//! sequentially, with its scripted sources settled (`specs/Plain.antt`, `specs/BundleLines.antt`). `run` is of a
+//! bundle of one server component whose value is written out (`specs/Run.antt`, `specs/Static.antt`): it is written as
+//! row 0 into a sink over memory, that row is read, and the text is that of the graph of the value as it stands in the
+//! program (`specs/Drawn.antt`).
 //!
 //! Reading that row is private to this crate (`one_row`, `model`), and so are reading and writing such a value
-//! (`static_code`, `static_word`, `static_read`, `static_program`, `static_row`): the first gives way to the
-//! client's crates and the second to the server's, and nothing else may stand on them. `due` says what is owed
-//! for words and a source; `alone` prints it.
+//! (`static_code`, `static_word`, `static_read`, `static_program`, `static_row`): they give way to the server's
+//! crates, and nothing else may stand on them. `due` says what is owed for words and a source; `alone` prints it.
 #![tactic(auto)]
 
 mod alone;
+mod bundle_line;
 mod due;
+mod line;
 mod model;
 mod one_row;
+mod plain;
+mod run;
 mod static_code;
 mod static_program;
 mod static_read;
@@ -26,6 +30,8 @@ mod static_word;
 #[cfg(test)]
 mod tests;
 mod told;
+mod view;
+mod words;
 
 pub use alone::flight_alone;
 pub use told::{Status, Told};

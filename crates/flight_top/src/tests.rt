@@ -46,14 +46,24 @@ fn runs(rt: &HostRuntime, input: &[u8], status: Status, text: &str) -> Result<bo
 }
 
 #[test]
-fn views_one_row(rt: HostRuntime) -> Result<(), Fail> {
+fn views_streams(rt: HostRuntime) -> Result<(), Fail> {
     let two = "root #0\n#0 array [#1,#2]\n#1 object {}\n#2 object {}\n";
     assert!(rt; views(&rt, ELEMENT, Status::Done, ELEMENT_TEXT)?);
     assert!(rt; views(&rt, "0:\"$$5\"\n", Status::Done, "root \"$5\"\n")?);
     assert!(rt; views(&rt, "0:[{},{}]\n", Status::Done, two)?);
     assert!(rt; views(&rt, "", Status::Stream, "stream: no root\n")?);
-    assert!(rt; views(&rt, "0:1.5\n", Status::Stream, "stream: not built\n")?);
-    assert!(rt; views(&rt, "0:{\"a\":1", Status::Stream, "stream: not built\n")?);
+    assert!(rt; views(&rt, "0:1.5\n", Status::Stream, "stream: row 1: number\n")?);
+    assert!(rt; views(&rt, "0:{\"a\":1", Status::Stream, "stream: row 1: cut\n")?);
+    assert!(rt;
+        views(
+            &rt,
+            "0:1\n0:2\n",
+            Status::Stream,
+            "stream: row 2: twice 0\n"
+        )?
+    );
+    assert!(rt; views(&rt, "0:\"$1f\"\n", Status::Stream, "stream: undefined 1f\n")?);
+    assert!(rt; views(&rt, "1f:2\n0:\"$1f\"\n", Status::Done, "root 2\n")?);
     Ok(())
 }
 
@@ -170,10 +180,104 @@ fn refuses(rt: &HostRuntime, texts: &[&str]) -> Result<bool, Fail> {
 }
 
 #[test]
+fn takes_cuts(rt: HostRuntime) -> Result<(), Fail> {
+    for cut in [
+        ["--cut=1"].as_slice(),
+        ["--cut=0000000007"].as_slice(),
+        ["--cut", "65536"].as_slice(),
+    ] {
+        let mut view = words(&rt, ["view"].as_slice())?;
+        for text in cut {
+            view.push(String::from_str(rt.alloc(), text)?)?;
+        }
+        let mut source = source(&rt, ELEMENT, [].as_slice())?;
+        let mut sink = sink(&rt, [].as_slice())?;
+        let told = flight_alone(rt.alloc(), view.as_slice(), &mut source, &mut sink);
+        assert!(rt; told.status == Status::Done && sink.held() == ELEMENT_TEXT.as_bytes());
+    }
+    Ok(())
+}
+
+#[test]
 fn refuses_other_words(rt: HostRuntime) -> Result<(), Fail> {
     assert!(rt; refuses(&rt, [].as_slice())?);
     assert!(rt; refuses(&rt, ["views"].as_slice())?);
     assert!(rt; refuses(&rt, ["view", "x"].as_slice())?);
     assert!(rt; refuses(&rt, ["--", "view"].as_slice())?);
+    assert!(rt; refuses(&rt, ["view", "--cut"].as_slice())?);
+    assert!(rt; refuses(&rt, ["view", "--cut", "0"].as_slice())?);
+    assert!(rt; refuses(&rt, ["view", "--cut=65537"].as_slice())?);
+    assert!(rt; refuses(&rt, ["view", "--cut=+7"].as_slice())?);
+    assert!(rt; refuses(&rt, ["view", "--cut=00000000007"].as_slice())?);
+    assert!(rt; refuses(&rt, ["--cut=7", "view"].as_slice())?);
+    assert!(rt; refuses(&rt, ["view", "--cut", "7", "--cut=7"].as_slice())?);
+    Ok(())
+}
+
+/// What `plain` with this fuel says of a bundle: its status and text.
+fn renders(
+    rt: &HostRuntime,
+    fuel: &str,
+    input: &str,
+    status: Status,
+    text: &str,
+) -> Result<bool, Fail> {
+    let plain = words(rt, ["plain", "--fuel", fuel].as_slice())?;
+    let bytes = Vec::from_slice(rt.alloc(), input.as_bytes())?;
+    let mut source = MemSource::new(bytes, 4096, Vec::new(rt.alloc()));
+    let mut sink = sink(rt, [].as_slice())?;
+    let told = flight_alone(rt.alloc(), plain.as_slice(), &mut source, &mut sink);
+    Ok(told.status == status && sink.held() == text.as_bytes())
+}
+
+#[test]
+fn renders_bundles(rt: HostRuntime) -> Result<(), Fail> {
+    for (fuel, bundle, status, text) in [
+        (
+            "1000000",
+            "server Left(o) = <b a={o} t={use u}/>;\nserver Right(o) = <i a={o} t={use v}/>;\nserver App() = let o = {k: 1} in [<Left o={o}/>, <Right o={o}/>];\n%%script\n{\"version\":1,\"sources\":{\"u\":{\"value\":\"x\",\"nodes\":[]},\"v\":{\"value\":\"y\",\"nodes\":[]}},\"settlers\":[[\"u\"],[\"v\"]]}\n",
+            Status::Done,
+            "root #0\n#0 array [#1,#4]\n#1 element \"b\" null #2\n#2 object {\"a\":#3,\"t\":\"x\"}\n#3 object {\"k\":1}\n#4 element \"i\" null #5\n#5 object {\"a\":#3,\"t\":\"y\"}\n",
+        ),
+        (
+            "1000000",
+            "server Part() = use s; server App() = [<Part/>, promise s];\n%%script\n{\"version\":1,\"sources\":{\"s\":{\"reject\":\"gone\"}},\"settlers\":[[\"s\"]]}\n",
+            Status::Done,
+            "root #0\n#0 array [failed \"gone\",#1]\n#1 promise failed \"gone\"\n",
+        ),
+        (
+            "1000000",
+            "server App() = use s;\n%%script\n{\"version\":1,\"sources\":{\"s\":{\"value\":5,\"nodes\":[]}}}\n",
+            Status::Done,
+            "root pending\n",
+        ),
+        (
+            "1000000",
+            "server App() = stream f;\n%%script\n{\"version\":1,\"sources\":{\"a\":{\"value\":1,\"nodes\":[]},\"b\":{\"reject\":\"no\"}},\"streams\":{\"f\":{\"kind\":\"iterable\",\"items\":[\"a\",\"b\"]}},\"settlers\":[[\"a\",\"b\"]]}\n",
+            Status::Done,
+            "root #0\n#0 iterable [1] failed \"no\"\n",
+        ),
+        (
+            "1000",
+            "server App() = <App/>;",
+            Status::Done,
+            "root failed \"depth\"\n",
+        ),
+        ("999", "server App() = <App/>;", Status::Fuel, "fuel\n"),
+        (
+            "1",
+            "server App() = x;",
+            Status::Bundle,
+            "program: unknown \"x\" at 15\n",
+        ),
+        (
+            "1",
+            "server App() = 1;\n%%script\n{",
+            Status::Bundle,
+            "script: bad json\n",
+        ),
+    ] {
+        assert!(rt; renders(&rt, fuel, bundle, status, text)?);
+    }
     Ok(())
 }

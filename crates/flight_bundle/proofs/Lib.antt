@@ -1,0 +1,10 @@
+pub mod Names
+pub mod Literals
+pub mod Terms
+pub mod Scripts
+pub mod Imports
+pub mod Lawful
+pub mod Passed
+pub mod Cuts
+pub mod OneParts
+pub mod OneFault

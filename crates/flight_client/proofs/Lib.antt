@@ -1,0 +1,15 @@
+pub mod Adding
+pub mod Items
+pub mod Pieces
+pub mod Finishes
+pub mod Compared
+pub mod Refusals
+pub mod OneReading
+pub mod OneEnd
+pub mod Shown
+pub mod Lasting
+pub mod Marks
+pub mod Labels
+pub mod SlotsThere
+pub mod NoPlace
+pub mod OneMark

@@ -1,0 +1,7 @@
+pub mod Rows
+pub mod Faults
+pub mod Held
+pub mod Adding
+pub mod Meant
+pub mod OneReading
+pub mod AnyPrefix

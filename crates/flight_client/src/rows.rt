@@ -1,0 +1,44 @@
+ghost use Rattle.std.specs.Prelude.{◌≡◌, ◌∷◌, [], All, IfErr, OnOk, OnErr};
+ghost use Rattle.flight_place.specs.Linked.{FollowOn};
+ghost use Rattle.flight_client.specs.Adding.{IsReadable, IsFailure, Adds, StopsAt};
+
+use crate::fault::ClientFault;
+use flight_feed::Arrived;
+use flight_link::{LinkFault, Links};
+use flight_place::{Manner, PlaceFault, places};
+use std::alloc::Global;
+
+/// Places and links rows that came, in order, up to the first that fails. Each row's bytes are dropped with it.
+pub fn link_all(alloc: Global, links: &mut Links, arrived: Vec<Arrived>) -> Result<(), ClientFault>
+    requires { All IsReadable arrived.items }
+    ensures ok { OnOk result (Adds arrived.items links.old links.new) }
+    ensures stops { IfErr result (StopsAt arrived.items links.old links.new) }
+{
+    for row in arrived {
+        link_row(alloc, links, row)?;
+    }
+    Ok(())
+}
+
+/// Places and links a row.
+fn link_row(alloc: Global, links: &mut Links, arrived: Arrived) -> Result<(), ClientFault>
+    requires { IsReadable arrived }
+    ensures ok { OnOk result (Adds (arrived ∷ []) links.old links.new) }
+    ensures fails { IfErr result (IsFailure links.old arrived) }
+    ensures kept { OnErr result (links.new ≡ links.old) }
+{
+    let number = arrived.number;
+    let tree = match places(alloc, &arrived.row, Manner::Wire) {
+        Ok(tree) => tree,
+        Err(PlaceFault::Fault(kind)) => return Err(ClientFault::Place { number, kind }),
+        Err(PlaceFault::Memory) => return Err(ClientFault::Memory),
+    };
+    match links.add(arrived.row.id, tree) {
+        Ok(()) => {
+            links.follow_on();
+            Ok(())
+        }
+        Err(LinkFault::Fault(kind)) => Err(ClientFault::Link { number, kind }),
+        Err(LinkFault::Memory) => Err(ClientFault::Memory),
+    }
+}

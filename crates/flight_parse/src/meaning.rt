@@ -1,0 +1,139 @@
+ghost use Rattle.std.specs.Prelude.{◌≡◌, IfOk, ◌++◌, ◌∷◌, [], map};
+ghost use Rattle.flight_syntax.specs.Tree.{trees_of, props_of, pairs_of};
+ghost use Rattle.flight_syntax.specs.Term.{term, prop, pair};
+ghost use Rattle.flight_syntax.specs.Term as terms;
+ghost use Rattle.flight_syntax.specs.Meaning.{meaning, meanings, meaning_props, meaning_pairs};
+ghost use Rattle.flight_tree.specs.Code.{placed, tree_of, property_of, entry_of};
+ghost use Rattle.flight_parse.specs.Names.{IsKnown, all_of, names_of};
+
+use crate::body::{Body, with_local};
+use crate::build::{action, action_with, atom, binary, client, element, for_in, if_else, index, let_in, member, paren, throw, variable_of};
+use flight_syntax::{Expr, PairExpr, PropExpr};
+use flight_tree::{Entry, Name, Property, Tree};
+use flight_value::Memory;
+use sqlite_items::Items;
+use std::alloc::Global;
+
+/// What an expression means, with numbers in place of names. A name that is unknown is number 0.
+#[cycle(meaning)]
+pub fn expr_of<'a>(alloc: Global, body: &Body<'_>, locals: &[&'a Name], tree: &'a Tree) -> Result<Expr, Memory>
+    requires { IsKnown body.now }
+    ensures { IfOk result (λ e. term e ≡ meaning (all_of body.now) (names_of body.now (map (λ n. placed n.now) locals.now)) (tree_of tree.now)) }
+{
+    match tree {
+        Tree::Let { name, value, then } => {
+            let (value, then) = local_of(alloc, body, locals, name, value.get(), then.get())?;
+            let_in(alloc, name, value, then)
+        }
+        Tree::If { test, yes, no } => {
+            let test = expr_of(alloc, body, locals, test.get())?;
+            let (yes, other) = two_of(alloc, body, locals, yes.get(), no.get())?;
+            if_else(alloc, test, yes, other)
+        }
+        Tree::For { name, over, give } => {
+            let (over, give) = local_of(alloc, body, locals, name, over.get(), give.get())?;
+            for_in(alloc, name, over, give)
+        }
+        Tree::Throw(value) => throw(alloc, expr_of(alloc, body, locals, value.get())?),
+        Tree::Member { of, name } => member(alloc, expr_of(alloc, body, locals, of.get())?, name),
+        Tree::Index { of, at } => {
+            let (of, at) = two_of(alloc, body, locals, of.get(), at.get())?;
+            index(alloc, of, at)
+        }
+        Tree::Atom(value) => atom(value),
+        Tree::Variable(name) => variable_of(body, locals, name),
+        Tree::Client(name) => Ok(client(body, name)),
+        Tree::Array(items) => Ok(Expr::Array(exprs_of(alloc, body, locals, items.as_slice())?)),
+        Tree::Object(properties) => Ok(Expr::Object(props_in(alloc, body, locals, properties.as_slice())?)),
+        Tree::Map(entries) => Ok(Expr::Map(pairs_in(alloc, body, locals, entries.as_slice())?)),
+        Tree::Set(items) => Ok(Expr::Set(exprs_of(alloc, body, locals, items.as_slice())?)),
+        Tree::Source(name) => Ok(Expr::Source(name.bytes.clone()?)),
+        Tree::Promise(name) => Ok(Expr::Promise(name.bytes.clone()?)),
+        Tree::Stream(name) => Ok(Expr::Stream(name.bytes.clone()?)),
+        Tree::Action { name, bound: None } => Ok(action(body, name)),
+        Tree::Action {
+            name,
+            bound: Some(bound),
+        } => Ok(action_with(body, name, exprs_of(alloc, body, locals, bound.as_slice())?)),
+        Tree::Paren(inside) => paren(alloc, expr_of(alloc, body, locals, inside.get())?),
+        Tree::Binary { op, left, right } => {
+            let (left, right) = two_of(alloc, body, locals, left.get(), right.get())?;
+            binary(alloc, *op, left, right)
+        }
+        Tree::Element {
+            tag,
+            attributes,
+            children,
+        } => {
+            let attrs = props_in(alloc, body, locals, attributes.as_slice())?;
+            let children = exprs_of(alloc, body, locals, children.as_slice())?;
+            element(body, tag, attrs, children)
+        }
+    }
+}
+
+/// What a variable stands for, and where it is in scope.
+#[cycle(meaning)]
+fn local_of<'a>(alloc: Global, body: &Body<'_>, locals: &[&'a Name], name: &'a Name, value: &'a Tree, then: &'a Tree) -> Result<(Expr, Expr), Memory>
+    requires { IsKnown body.now }
+    ensures { IfOk result (λ p. (term p.0 ≡ meaning (all_of body.now) (names_of body.now (map (λ n. placed n.now) locals.now)) (tree_of value.now)) × (term p.1 ≡ meaning (all_of body.now) (names_of body.now (map (λ n. placed n.now) locals.now) ++ name.now.bytes ∷ []) (tree_of then.now))) }
+{
+    let value = expr_of(alloc, body, locals, value)?;
+    let inner = with_local(alloc, locals, name)?;
+    let then = expr_of(alloc, body, inner.as_slice(), then)?;
+    Ok((value, then))
+}
+
+/// Two expressions.
+#[cycle(meaning)]
+fn two_of<'a>(alloc: Global, body: &Body<'_>, locals: &[&'a Name], one: &'a Tree, other: &'a Tree) -> Result<(Expr, Expr), Memory>
+    requires { IsKnown body.now }
+    ensures { IfOk result (λ p. (term p.0 ≡ meaning (all_of body.now) (names_of body.now (map (λ n. placed n.now) locals.now)) (tree_of one.now)) × (term p.1 ≡ meaning (all_of body.now) (names_of body.now (map (λ n. placed n.now) locals.now)) (tree_of other.now))) }
+{
+    let one = expr_of(alloc, body, locals, one)?;
+    let other = expr_of(alloc, body, locals, other)?;
+    Ok((one, other))
+}
+
+/// Expressions.
+#[cycle(meaning)]
+fn exprs_of<'a>(alloc: Global, body: &Body<'_>, locals: &[&'a Name], items: &'a [Tree]) -> Result<Items<Expr>, Memory>
+    requires { IsKnown body.now }
+    ensures { IfOk result (λ out. terms.terms_of (map term out) ≡ meanings (all_of body.now) (names_of body.now (map (λ n. placed n.now) locals.now)) (trees_of (map tree_of items.now))) }
+{
+    let mut out = Items::new(alloc);
+    for item in items {
+        let expr = expr_of(alloc, body, locals, item)?;
+        out.push(expr)?;
+    }
+    Ok(out)
+}
+
+/// Properties.
+#[cycle(meaning)]
+fn props_in<'a>(alloc: Global, body: &Body<'_>, locals: &[&'a Name], properties: &'a [Property]) -> Result<Items<PropExpr>, Memory>
+    requires { IsKnown body.now }
+    ensures { IfOk result (λ out. terms.props_of (map prop out) ≡ meaning_props (all_of body.now) (names_of body.now (map (λ n. placed n.now) locals.now)) (props_of (map property_of properties.now))) }
+{
+    let mut out = Items::new(alloc);
+    for property in properties {
+        let value = expr_of(alloc, body, locals, &property.value)?;
+        let name = property.name.bytes.clone()?;
+        out.push(PropExpr { name, value })?;
+    }
+    Ok(out)
+}
+
+/// Entries.
+#[cycle(meaning)]
+fn pairs_in<'a>(alloc: Global, body: &Body<'_>, locals: &[&'a Name], entries: &'a [Entry]) -> Result<Items<PairExpr>, Memory>
+    requires { IsKnown body.now }
+    ensures { IfOk result (λ out. terms.pairs_of (map pair out) ≡ meaning_pairs (all_of body.now) (names_of body.now (map (λ n. placed n.now) locals.now)) (pairs_of (map entry_of entries.now))) }
+{
+    let mut out = Items::new(alloc);
+    for entry in entries {
+        let (key, value) = two_of(alloc, body, locals, &entry.key, &entry.value)?;
+        out.push(PairExpr { key, value })?;
+    }
+    Ok(out)
+}

@@ -1,0 +1,10 @@
+use Rattle.std.proofs.Common.{codes, ap, Err}
+use Rattle.flight_top.specs.declared.told.Status.TheVariants.{Bundle}
+use Rattle.flight_top.specs.Run.{IsDueRunOf}
+use Rattle.flight_top.proofs.Dues.{bundle_too_long, due_line}
+use Rattle.flight_top.proofs.run.run.Goals as goal
+
+pub returns-in-Err-TooLong-clause-due : goal.returns-in-Err-TooLong-clause-due
+returns-in-Err-TooLong-clause-due g c =
+    due_line (IsDueRunOf (g.S.Source.left c.args.source.now)) Bundle c.line.result (codes "bundle: too long\n") c.line.ensures.ok
+    (bundle_too_long (g.S.Source.left c.args.source.now) (c.in-Err-TooLong.ensures.too_long (ap Err c.in-Err-TooLong.field-0-is)))

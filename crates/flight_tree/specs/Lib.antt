@@ -1,0 +1,4 @@
+pub mod Code
+pub mod Values
+pub mod Declarations
+pub mod Reports
