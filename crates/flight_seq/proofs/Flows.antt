@@ -4,17 +4,18 @@ use Rattle.std.proofs.lemmas.List.{map-append}
 use Rattle.flight_value.specs.declared.graph.Flow.{Flow}
 use Rattle.flight_value.specs.Store as store
 use Rattle.flight_render.specs.declared.root.Ground.{Ground}
-use Rattle.flight_render.specs.Run.{gave, End}
+use Rattle.flight_render.specs.Run.{gave, threw, waits, End}
 use Rattle.flight_render.specs.Values.{source_end, undefined}
 use Rattle.flight_render.specs.Jobs.{comes, outcome, blank, of_job, Value}
 use Rattle.flight_render.specs.Plain.{Flowed, closed, broken, going, flow, flow_last, flow_item, last_job}
 use Rattle.flight_seq.specs.declared.held.Held.{Held}
 use Rattle.flight_seq.specs.declared.held.Label.TheVariants as label
+use Rattle.flight_seq.specs.declared.held.FlowState.{FlowState}
 use Rattle.flight_seq.specs.declared.held.FlowState.TheVariants as state
 use Rattle.flight_seq.specs.declared.held.Shape.{Shape}
 use Rattle.flight_value.specs.declared.memory.Memory.{Memory}
 use Rattle.flight_seq.specs.Held.{value_held, shape_for}
-use Rattle.flight_seq.specs.Sources.{behind, stream_shape}
+use Rattle.flight_seq.specs.Sources.{behind, stream_shape, StopsAt}
 
 pub comes_source : (g : Ground) (s : List Bool) (i : ℕ) → comes g s (outcome i) ≡ Some (source_end g s i)
 unfolding comes
@@ -25,9 +26,6 @@ unfolding comes
 comes_blank g s = refl
 
 -- ---- ends
-
-ends_flow : Value → Flowed Value
-ends_flow v = record { items = []; end = closed v }
 
 pub closed_shape : (f : Flow) (hs : List Held) (h : Held) (rest : Flowed Value) → rest ≡ record { items = []; end = closed (value_held h) } → shape_for (record { label = label.Stream f state.Closed; held = hs ++ h ∷ [] }) ≡ stream_shape f (behind (map value_held hs) rest)
 closed_shape f hs h rest e =
@@ -75,3 +73,15 @@ behind_push hs new h f e =
 pub if_made : (r : Result Shape Memory) (made : Shape) (wanted : store.Shape Value) → shape_for made ≡ wanted → IfOk r (λ s. s ≡ made) → IfOk r (λ s. shape_for s ≡ wanted)
 if_made (Ok s) made wanted e h = ap shape_for h ∙ e
 if_made (Err m) made wanted e h = h
+
+-- ---- where a stream stops
+
+pub stops_last : (g : Ground) (s : List Bool) (i : ℕ) (f : Flow) (hs : List Held) (st : FlowState) → StopsAt g s i (Some st) → shape_for (record { label = label.Stream f st; held = hs }) ≡ stream_shape f (behind (map value_held hs) (flow_last (last_job (Some i)) (comes g s (last_job (Some i)))))
+stops_last g s i f hs state.Flowing h = going_shape f hs _ (last_by g s i (waits i) h)
+stops_last g s i f hs (state.Broken digest) h = broken_shape f hs digest digest _ refl (last_by g s i (threw digest) h)
+stops_last g s i f hs state.Closed h = absurd h
+
+pub stops_item : (g : Ground) (s : List Bool) (items xs : List ℕ) (last : Option ℕ) (i : ℕ) (f : Flow) (hs : List Held) (st : FlowState) → xs ≡ items → i < length xs → StopsAt g s (get_or xs i 0) (Some st) → shape_for (record { label = label.Stream f st; held = hs }) ≡ stream_shape f (behind (map value_held hs) (flow g s (drop i items) last))
+stops_item g s items xs last i f hs state.Flowing same lt h = going_shape f hs _ (flow_at g s items xs last i (waits (get_or xs i 0)) same lt h)
+stops_item g s items xs last i f hs (state.Broken digest) same lt h = broken_shape f hs digest digest _ refl (flow_at g s items xs last i (threw digest) same lt h)
+stops_item g s items xs last i f hs state.Closed same lt h = absurd h

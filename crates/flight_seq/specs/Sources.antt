@@ -1,5 +1,5 @@
 -- What sources come to, and how far a stream has arrived.
-use Rattle.std.specs.Prelude.{ℕ, ◌≡◌, Bool, List, [], ◌∷◌, ◌++◌, map}
+use Rattle.std.specs.Prelude.{ℕ, ◌≡◌, Bool, List, Option, Some, None, [], ◌∷◌, ◌++◌, map}
 use Rattle.flight_value.specs.declared.graph.Slot.{Slot}
 use Rattle.flight_value.specs.declared.graph.Slot.TheVariants as slot
 use Rattle.flight_value.specs.declared.graph.Node.{Node}
@@ -14,6 +14,8 @@ use Rattle.flight_render.specs.Jobs.{Value, shown, of_job, known}
 use Rattle.flight_render.specs.Plain.{Flowed, state_of, flow_slots}
 use Rattle.flight_value.specs.declared.graph.Flow.{Flow}
 use Rattle.flight_value.specs.Store.{Shape, stream}
+use Rattle.flight_seq.specs.declared.held.FlowState.{FlowState}
+use Rattle.flight_seq.specs.declared.held.FlowState.TheVariants as state
 use Rattle.flight_seq.specs.declared.source.Arrived.{Arrived}
 use Rattle.flight_seq.specs.declared.source.Arrived.TheVariants as arrived
 
@@ -39,3 +41,10 @@ behind front f = record { items = front ++ f.items; end = f.end }
 -- a stream that has come so far
 abbrev pub stream_shape : Flow → Flowed Value → Shape Value
 stream_shape flow f = record { label = stream flow (state_of f.end); slots = flow_slots f }
+
+-- at a source without a value a stream stops: it stays open where that is not settled, and fails where it is rejected
+abbrev pub StopsAt : Ground → List Bool → ℕ → Option FlowState → Type 0
+StopsAt g settled source None = (t : Tree) × (source_end g settled source ≡ gave t)
+StopsAt g settled source (Some state.Flowing) = source_end g settled source ≡ waits source
+StopsAt g settled source (Some (state.Broken digest)) = source_end g settled source ≡ threw digest
+StopsAt g settled source (Some state.Closed) = ⊥

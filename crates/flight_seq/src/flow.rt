@@ -2,7 +2,7 @@ ghost use Rattle.std.specs.Prelude.{◌≡◌, ◌++◌, ◌∷◌, [], IfOk, le
 ghost use Rattle.flight_render.specs.Plain.{flow_shape, flow_last, last_job};
 ghost use Rattle.flight_render.specs.Jobs.{comes};
 ghost use Rattle.flight_seq.specs.Held.{shape_for, value_held};
-ghost use Rattle.flight_seq.specs.Sources.{behind, stream_shape};
+ghost use Rattle.flight_seq.specs.Sources.{behind, stream_shape, StopsAt};
 ghost use Rattle.flight_seq.specs.declared.held.Shape.{Shape};
 ghost use Rattle.flight_seq.specs.declared.held.Label.TheVariants as label;
 ghost use Rattle.flight_seq.specs.declared.held.FlowState.TheVariants as state;
@@ -27,15 +27,24 @@ pub fn flow_of(
 {
     let mut held = Vec::new(alloc);
     for source in flowing.items.as_slice() {
-        match come(ground, seen, *source) {
-            Arrived::Value(_) => held.push(Held::Outcome { source: *source })?,
-            Arrived::Rejected(digest) => {
-                return Ok(stream_of(flowing.flow, FlowState::Broken(digest.clone()?), held));
-            }
-            Arrived::Waits => return Ok(stream_of(flowing.flow, FlowState::Flowing, held)),
+        match stop_at(ground, seen, *source)? {
+            Some(state) => return Ok(stream_of(flowing.flow, state, held)),
+            None => held.push(Held::Outcome { source: *source })?,
         }
     }
     last_of(ground, seen, flowing, held)
+}
+
+/// How a stream stops at a source. None where it goes on.
+fn stop_at(ground: &Ground, seen: &Seen, source: u32) -> Result<Option<FlowState>, Memory>
+    requires { length seen.now.settled ≡ length ground.now.script.sources }
+    ensures { IfOk result (StopsAt ground.now seen.now.settled source) }
+{
+    match come(ground, seen, source) {
+        Arrived::Value(_) => Ok(None),
+        Arrived::Rejected(digest) => Ok(Some(FlowState::Broken(digest.clone()?))),
+        Arrived::Waits => Ok(Some(FlowState::Flowing)),
+    }
 }
 
 /// A stream whose items have all come.
@@ -51,14 +60,9 @@ fn last_of(
     let Some(source) = flowing.last else {
         return closed(flowing.flow, held, Held::Blank);
     };
-    match come(ground, seen, source) {
-        Arrived::Value(_) => closed(flowing.flow, held, Held::Outcome { source }),
-        Arrived::Rejected(digest) => Ok(stream_of(
-            flowing.flow,
-            FlowState::Broken(digest.clone()?),
-            held,
-        )),
-        Arrived::Waits => Ok(stream_of(flowing.flow, FlowState::Flowing, held)),
+    match stop_at(ground, seen, source)? {
+        Some(state) => Ok(stream_of(flowing.flow, state, held)),
+        None => closed(flowing.flow, held, Held::Outcome { source }),
     }
 }
 
