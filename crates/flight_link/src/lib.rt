@@ -19,6 +19,7 @@ mod find;
 mod found;
 mod fresh;
 mod key;
+mod law;
 mod links;
 mod look;
 mod mention;
@@ -37,4 +38,5 @@ mod undefined;
 
 pub use fault::{LinkFault, LinkKind};
 pub use found::{Found, Seen, Spot};
+pub use law::one_canon;
 pub use links::Links;
