@@ -44,11 +44,11 @@ def fail(why):
     sys.exit(1)
 
 
-def proved_build():
-    """Makes the proved build and returns the command line of `view`."""
+def proved_build(command):
+    """Makes the proved build and returns the command line of one of its commands."""
     if subprocess.run([TOP / "bin" / "build"], stdout=subprocess.DEVNULL).returncode:
         fail("there is no proved build to measure: bin/build failed")
-    return [str(TOP / "crates" / "flight" / "out" / "flight"), "view"]
+    return [str(TOP / "crates" / "flight" / "out" / "flight"), command]
 
 
 def once(command, path):
@@ -135,7 +135,7 @@ def print_table(lines, is_markdown):
 
 
 def run_all(asked, folder):
-    own, peer = proved_build(), shlex.split(asked.peer) + ["view"] if asked.peer else None
+    own, peer = proved_build("view"), shlex.split(asked.peer) + ["view"] if asked.peer else None
     # In a process of its own, so that this one stays small: a child's peak is never told as less.
     subprocess.run([sys.executable, HERE / "inputs.py", folder, "--sizes", ",".join(map(str, asked.sizes)), "--shapes",
                     ",".join(asked.shapes), "--seed", str(asked.seed)], check=True, stdout=subprocess.DEVNULL)
@@ -171,4 +171,5 @@ def main():
             run_all(asked, folder)
 
 
-main()
+if __name__ == "__main__":
+    main()
