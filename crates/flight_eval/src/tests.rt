@@ -2,257 +2,18 @@ ghost use Rattle.std.specs.Prelude.{◌≡◌, ◌∷◌, [], IfOk, map, codes};
 ghost use Rattle.flight_eval.specs.Names.{HasAscendingNames};
 ghost use Rattle.flight_eval.specs.Address.{IsAddressOf};
 
-use crate::body::{Attempt, Body, Gave};
 use crate::job::attempted;
+use crate::shown::shown;
+use crate::spelled::program;
 use flight_render::{Ground, Job, Root, What};
-use flight_syntax::{
-    Data, Declared, Expr, Flowing, Op, Outcome, PairExpr, Program, PropExpr, Script, Seen, Tag,
-};
+use flight_syntax::{Data, Declared, Flowing, Outcome, Program, Script, Seen};
 use flight_value::{
-    Atom, Constant, Flow, Graph, List, Made, MadeKind, Memory, Name, Node, Prop, Shared, Slot,
-    Tables, Text, Tree,
+    Atom, Flow, Graph, List, Made, MadeKind, Memory, Name, Node, Prop, Shared, Slot, Tables, Text,
+    Tree,
 };
-use sqlite_items::{Boxed, Items};
 use std::alloc::Global;
 use std::process::Abort;
 use std::test::Fail;
-
-// ---- programs, spelled as words with the parts of an expression before it
-
-/// Takes the last expression.
-fn last(stack: &mut Vec<Expr>) -> Result<Expr, Memory> {
-    stack.pop().ok_or(Memory)
-}
-
-/// Takes the last expression, in a box.
-fn boxed(alloc: Global, stack: &mut Vec<Expr>) -> Result<Boxed<Expr>, Memory> {
-    Ok(Boxed::new(alloc, last(stack)?)?)
-}
-
-/// Takes so many of the last expressions.
-fn several(alloc: Global, stack: &mut Vec<Expr>, count: usize) -> Result<Vec<Expr>, Memory> {
-    let mut items = Vec::new(alloc);
-    for _ in 0..count {
-        items.push(last(stack)?)?;
-    }
-    items.reverse();
-    Ok(items)
-}
-
-fn number(digits: &str) -> Result<u32, Memory> {
-    digits.parse::<u32>().map_err(|_| Memory)
-}
-
-/// The constants.
-fn constant(word: &str) -> Option<Atom> {
-    match word {
-        "null" => Some(Atom::Null),
-        "undefined" => Some(Atom::Undefined),
-        "true" => Some(Atom::Bool(true)),
-        "false" => Some(Atom::Bool(false)),
-        "NaN" => Some(Atom::Constant(Constant::NotANumber)),
-        "-0" => Some(Atom::Constant(Constant::MinusZero)),
-        _ => None,
-    }
-}
-
-fn operator(word: &str) -> Option<Op> {
-    match word {
-        "+" => Some(Op::Plus),
-        "-" => Some(Op::Minus),
-        "*" => Some(Op::Times),
-        "==" => Some(Op::Equal),
-        "<" => Some(Op::Less),
-        "&&" => Some(Op::And),
-        "||" => Some(Op::Or),
-        _ => None,
-    }
-}
-
-/// `let`, `for`, `if`, `throw`, `at` and `paren`.
-fn control(alloc: Global, stack: &mut Vec<Expr>, word: &str) -> Result<Expr, Memory> {
-    let third = boxed(alloc, stack)?;
-    if word == "throw" {
-        return Ok(Expr::Throw(third));
-    }
-    if word == "paren" {
-        return Ok(Expr::Paren(third));
-    }
-    let second = boxed(alloc, stack)?;
-    if word == "at" {
-        return Ok(Expr::Index {
-            of: second,
-            at: third,
-        });
-    }
-    if word == "if" {
-        return Ok(Expr::If {
-            test: boxed(alloc, stack)?,
-            yes: second,
-            no: third,
-        });
-    }
-    let name = Text::new(alloc, "x")?;
-    if word == "for" {
-        return Ok(Expr::For {
-            name,
-            over: second,
-            give: third,
-        });
-    }
-    Ok(Expr::Let {
-        name,
-        value: second,
-        then: third,
-    })
-}
-
-/// Properties of these names, with the last expressions.
-fn props(alloc: Global, stack: &mut Vec<Expr>, names: &str) -> Result<Items<PropExpr>, Memory> {
-    let mut texts = Vec::new(alloc);
-    for name in names.split(',') {
-        if !name.is_empty() {
-            texts.push(Text::new(alloc, name)?)?;
-        }
-    }
-    let values = several(alloc, stack, texts.len())?;
-    let mut props = Vec::new(alloc);
-    for (name, value) in texts.into_iter().zip(values) {
-        props.push(PropExpr { name, value })?;
-    }
-    Ok(Items::from_vec(props))
-}
-
-/// Entries of a map, so many.
-fn pairs(alloc: Global, stack: &mut Vec<Expr>, count: u32) -> Result<Items<PairExpr>, Memory> {
-    let mut pairs = Vec::new(alloc);
-    for _ in 0..count {
-        let value = last(stack)?;
-        let key = last(stack)?;
-        pairs.push(PairExpr { key, value })?;
-    }
-    pairs.reverse();
-    Ok(Items::from_vec(pairs))
-}
-
-/// `@` and a number for a client component, `$` and a number for a server component, `*` for `Suspense`.
-fn tag(alloc: Global, word: &str) -> Result<Tag, Memory> {
-    if let Some(digits) = word.strip_prefix('$') {
-        return Ok(Tag::Server(number(digits)?));
-    }
-    if let Some(digits) = word.strip_prefix('@') {
-        return Ok(Tag::Client(number(digits)?));
-    }
-    if word == "*" {
-        return Ok(Tag::Suspense);
-    }
-    Ok(Tag::Host(Text::new(alloc, word)?))
-}
-
-/// A tag, `,` and the names of attributes, `/` and the number of children.
-fn element(alloc: Global, stack: &mut Vec<Expr>, word: &str) -> Result<Expr, Memory> {
-    let (head, count) = match word.split_once('/') {
-        Some((head, digits)) => (head, number(digits)?),
-        None => (word, 0),
-    };
-    let (name, names) = match head.split_once(',') {
-        Some((name, names)) => (name, names),
-        None => (head, ""),
-    };
-    let children = Items::from_vec(several(alloc, stack, count as usize)?);
-    let attrs = props(alloc, stack, names)?;
-    Ok(Expr::Element {
-        tag: tag(alloc, name)?,
-        attrs,
-        children,
-    })
-}
-
-/// A number of an action, `,` and how many arguments are bound.
-fn bound(alloc: Global, stack: &mut Vec<Expr>, word: &str) -> Result<Expr, Memory> {
-    let Some((action, count)) = word.split_once(',') else {
-        return Ok(Expr::Action {
-            action: number(word)?,
-            bound: None,
-        });
-    };
-    let items = several(alloc, stack, number(count)? as usize)?;
-    Ok(Expr::Action {
-        action: number(action)?,
-        bound: Some(Items::from_vec(items)),
-    })
-}
-
-/// What begins with a mark, and the rest of it.
-fn marked(alloc: Global, stack: &mut Vec<Expr>, mark: &str, rest: &str) -> Result<Expr, Memory> {
-    match mark {
-        "'" => Ok(Expr::Atom(Atom::Text(Text::new(alloc, rest)?))),
-        "$" => Ok(Expr::Variable(number(rest)?)),
-        "." => Ok(Expr::Member {
-            of: boxed(alloc, stack)?,
-            name: Text::new(alloc, rest)?,
-        }),
-        "@" => Ok(Expr::Source(Text::new(alloc, rest)?)),
-        "~" => Ok(Expr::Promise(Text::new(alloc, rest)?)),
-        "%" => Ok(Expr::Stream(Text::new(alloc, rest)?)),
-        "&" => Ok(Expr::Client(number(rest)?)),
-        "!" => bound(alloc, stack, rest),
-        "{" => Ok(Expr::Object(props(alloc, stack, rest)?)),
-        "<" => element(alloc, stack, rest),
-        "[" => {
-            let items = several(alloc, stack, number(rest)? as usize)?;
-            Ok(Expr::Array(Items::from_vec(items)))
-        }
-        "#" => {
-            let items = several(alloc, stack, number(rest)? as usize)?;
-            Ok(Expr::Set(Items::from_vec(items)))
-        }
-        "?" => Ok(Expr::Map(pairs(alloc, stack, number(rest)?)?)),
-        _ => Err(Memory),
-    }
-}
-
-/// A whole, or a big number with an `n` behind it.
-fn numeral(word: &str) -> Result<Atom, Memory> {
-    match word.strip_suffix('n') {
-        Some(digits) => Ok(Atom::Big(digits.parse::<i128>().map_err(|_| Memory)?)),
-        None => Ok(Atom::Whole(word.parse::<i64>().map_err(|_| Memory)?)),
-    }
-}
-
-/// The expression of a word, with the last expressions as its parts.
-fn expression(alloc: Global, stack: &mut Vec<Expr>, word: &str) -> Result<Expr, Memory> {
-    if let Some(atom) = constant(word) {
-        return Ok(Expr::Atom(atom));
-    }
-    if let Some(op) = operator(word) {
-        let right = boxed(alloc, stack)?;
-        let left = boxed(alloc, stack)?;
-        return Ok(Expr::Binary { op, left, right });
-    }
-    if ["let", "for", "if", "throw", "at", "paren"].contains(&word) {
-        return control(alloc, stack, word);
-    }
-    match numeral(word) {
-        Ok(atom) => Ok(Expr::Atom(atom)),
-        Err(_) => match word.split_at_checked(1) {
-            Some((mark, rest)) => marked(alloc, stack, mark, rest),
-            None => Err(Memory),
-        },
-    }
-}
-
-/// The expression that words spell.
-fn program(alloc: Global, words: &str) -> Result<Expr, Memory> {
-    let mut stack = Vec::new(alloc);
-    for word in words.split(' ') {
-        let next = expression(alloc, &mut stack, word)?;
-        stack.push(next)?;
-    }
-    last(&mut stack)
-}
-
-// ---- what is rendered over
 
 fn text(alloc: Global, text: &str) -> Result<Text, Memory>
     ensures { IfOk result (λ t. t ≡ text.now) }
@@ -367,28 +128,33 @@ fn script(alloc: Global) -> Result<Script, Memory>
     })
 }
 
+fn component(alloc: Global, name: &str, params: &[&str], body: &str) -> Result<Declared, Memory> {
+    let name = text(alloc, name)?;
+    let params = names(alloc, params)?;
+    let body = program(alloc, body)?;
+    Ok(Declared::Server { name, params, body })
+}
+
+fn client(alloc: Global, name: &str, import: &str) -> Result<Declared, Memory> {
+    let name = text(alloc, name)?;
+    let import = text(alloc, import)?;
+    Ok(Declared::Client { name, import })
+}
+
+fn action(alloc: Global, name: &str, params: &[&str], body: &str) -> Result<Declared, Memory> {
+    let name = text(alloc, name)?;
+    let params = names(alloc, params)?;
+    let body = program(alloc, body)?;
+    Ok(Declared::Action { name, params, body })
+}
+
 /// `App` with a body, a component `Item` of `a` and `b`, a client component and an action of `x` and `y`.
 fn declared(alloc: Global, body: &str) -> Result<Vec<Declared>, Memory> {
     let mut declared = Vec::new(alloc);
-    declared.push(Declared::Server {
-        name: text(alloc, "App")?,
-        params: names(alloc, &[])?,
-        body: program(alloc, body)?,
-    })?;
-    declared.push(Declared::Server {
-        name: text(alloc, "Item")?,
-        params: names(alloc, &["a", "b"])?,
-        body: program(alloc, "$0 $1 [2")?,
-    })?;
-    declared.push(Declared::Client {
-        name: text(alloc, "Button")?,
-        import: text(alloc, "{\"id\":\"b\"}")?,
-    })?;
-    declared.push(Declared::Action {
-        name: text(alloc, "add")?,
-        params: names(alloc, &["x", "y"])?,
-        body: program(alloc, "$0 $1 +")?,
-    })?;
+    declared.push(component(alloc, "App", &[], body)?)?;
+    declared.push(component(alloc, "Item", &["a", "b"], "$0 $1 [2")?)?;
+    declared.push(client(alloc, "Button", "{\"id\":\"b\"}")?)?;
+    declared.push(action(alloc, "add", &["x", "y"], "$0 $1 +")?)?;
     Ok(declared)
 }
 
@@ -410,96 +176,6 @@ fn call(alloc: Global) -> Result<Root, Memory> {
         args: two(alloc, Atom::Whole(1), Atom::Whole(2))?,
     })
 }
-
-// ---- what an attempt came to, as a text
-
-fn shown_atom(alloc: Global, atom: &Atom) -> Result<String, Memory> {
-    Ok(match atom {
-        Atom::Null => String::from_str(alloc, "null")?,
-        Atom::Undefined => String::from_str(alloc, "undefined")?,
-        Atom::Bool(it) => format!(in alloc; "{it}")?,
-        Atom::Whole(number) => format!(in alloc; "{number}")?,
-        Atom::Big(number) => format!(in alloc; "{number}n")?,
-        Atom::Text(text) => format!(in alloc; "'{}", text.as_str())?,
-        Atom::Symbol(text) => format!(in alloc; "@{}", text.as_str())?,
-        Atom::Import(text) => format!(in alloc; "&{}", text.as_str())?,
-        _ => String::from_str(alloc, "other")?,
-    })
-}
-
-fn shown_tree(alloc: Global, tree: &Tree) -> Result<String, Memory> {
-    Ok(match tree {
-        Tree::Atom(atom) => shown_atom(alloc, atom)?,
-        Tree::Made(Name { render, serial }) => {
-            let level = render.get().as_slice().len();
-            format!(in alloc; "#{level}.{serial}")?
-        }
-        Tree::FromSource { source, node } => format!(in alloc; "s{source}.{node}")?,
-        Tree::Promise { source } => format!(in alloc; "p{source}")?,
-        Tree::Stream { stream } => format!(in alloc; "f{stream}")?,
-        Tree::Action { action } => format!(in alloc; "a{action}")?,
-    })
-}
-
-fn shown_kind(alloc: Global, kind: &MadeKind) -> Result<String, Memory> {
-    Ok(match kind {
-        MadeKind::Array => String::from_str(alloc, "Array")?,
-        MadeKind::Object(names) => {
-            let mut shown = String::from_str(alloc, "Object")?;
-            for name in names.as_slice() {
-                shown.push_str(format!(in alloc; " {}", name.as_str())?.as_str())?;
-            }
-            shown
-        }
-        MadeKind::Map => String::from_str(alloc, "Map")?,
-        MadeKind::Set => String::from_str(alloc, "Set")?,
-        MadeKind::Element => String::from_str(alloc, "Element")?,
-        MadeKind::Server { component } => format!(in alloc; "Server {component}")?,
-        MadeKind::Promise => String::from_str(alloc, "Promise")?,
-        MadeKind::Bound { action } => format!(in alloc; "Bound {action}")?,
-    })
-}
-
-fn shown_made(alloc: Global, made: &Made) -> Result<String, Memory> {
-    let mut shown = shown_kind(alloc, &made.kind)?;
-    shown.push_str("(")?;
-    for slot in made.slots.as_slice() {
-        if !shown.ends_with('(') {
-            shown.push_str(" ")?;
-        }
-        shown.push_str(shown_tree(alloc, slot)?.as_str())?;
-    }
-    shown.push_str(") ")?;
-    Ok(shown)
-}
-
-fn shown_body(alloc: Global, body: &Body) -> Result<String, Memory> {
-    let mut shown = String::new(alloc);
-    for made in body.made.get().as_slice() {
-        shown.push_str(shown_made(alloc, made)?.as_str())?;
-    }
-    let end = match &body.gave {
-        Gave::Tree(tree) => format!(in alloc; "= {}", shown_tree(alloc, tree)?)?,
-        Gave::Threw(digest) => format!(in alloc; "! {}", digest.as_str())?,
-    };
-    let cost = body.cost;
-    shown.push_str(end.as_str())?;
-    shown.push_str(format!(in alloc; ", {cost}")?.as_str())?;
-    Ok(shown)
-}
-
-fn shown(alloc: Global, attempt: &Attempt) -> Result<String, Memory> {
-    match attempt {
-        Attempt::Finished { bodies } => match bodies.as_slice() {
-            [body] => shown_body(alloc, body),
-            _ => Err(Memory),
-        },
-        Attempt::Waits { source } => Ok(format!(in alloc; "waits {source}")?),
-        Attempt::OverFuel => Ok(String::from_str(alloc, "over fuel")?),
-    }
-}
-
-// ---- attempts
 
 /// An attempt with all sources settled but `e`.
 fn tried(
@@ -749,33 +425,63 @@ fn tried_element(alloc: Global, over: &Ground, level: usize, serial: u32) -> Res
     tried(alloc, over, address, What::Element { element, tables }, 100)
 }
 
+/// Asks that an attempt came to this.
+fn told(rt: &impl Abort, found: Result<String, Memory>, expected: &str) -> Result<(), Fail> {
+    let found = found?;
+    assert!(rt; found.as_str() == expected, "{found} for {expected}");
+    Ok(())
+}
+
+/// `App` of 1, rendered for the call of the action.
+fn called(alloc: Global) -> Result<Ground, Memory>
+    ensures { IfOk result (λ g. HasAscendingNames g.script) }
+{
+    over(alloc, "1", call(alloc)?)
+}
+
 #[test]
-fn attempts_each_kind_of_job(rt: HostRuntime) -> Result<(), Fail> {
+fn attempts_bodies(rt: HostRuntime) -> Result<(), Fail> {
     let alloc = rt.alloc();
-    let over = over(alloc, "1", call(alloc)?)?;
-    let root = tried_at_top(alloc, &over, What::Root, 100)?;
-    assert!(rt; root.as_str() == "= 3, 4", "{root}");
-    let element = tried_element(alloc, &over, 0, 1)?;
-    assert!(rt;
-        element.as_str() == "Array(5 undefined) = #1.0, 6",
-        "{element}"
-    );
-    let object = tried_element(alloc, &over, 0, 0)?;
-    assert!(rt; object.as_str() == "! type, 0", "{object}");
+    let over = called(alloc)?;
+    told(&rt, tried_at_top(alloc, &over, What::Root, 100), "= 3, 4")?;
+    told(
+        &rt,
+        tried_element(alloc, &over, 0, 1),
+        "Array(5 undefined) = #1.0, 6",
+    )?;
+    told(&rt, tried_element(alloc, &over, 0, 0), "! type, 0")
+}
+
+#[test]
+fn attempts_what_is_no_body(rt: HostRuntime) -> Result<(), Fail> {
+    let alloc = rt.alloc();
+    let over = called(alloc)?;
     let slot = Slot::Node(0);
-    let known = tried_at_top(alloc, &over, What::Known { slot }, 0)?;
-    assert!(rt; known.as_str() == "= s5.0, 0", "{known}");
+    told(
+        &rt,
+        tried_at_top(alloc, &over, What::Known { slot }, 0),
+        "= s5.0, 0",
+    )?;
     for (source, expected) in [(0, "= 7, 0"), (1, "! no, 0"), (4, "waits 4")] {
-        let found = tried_at_top(alloc, &over, What::Promise { source }, 0)?;
-        assert!(rt; found.as_str() == expected, "{source}: {found}");
+        told(
+            &rt,
+            tried_at_top(alloc, &over, What::Promise { source }, 0),
+            expected,
+        )?;
     }
     for (index, expected) in [(0, "= 7, 0"), (1, "! no, 0")] {
-        let found = tried_at_top(alloc, &over, What::Item { stream: 0, index }, 0)?;
-        assert!(rt; found.as_str() == expected, "{index}: {found}");
+        told(
+            &rt,
+            tried_at_top(alloc, &over, What::Item { stream: 0, index }, 0),
+            expected,
+        )?;
     }
     for (stream, expected) in [(0, "= s2.0, 0"), (1, "= undefined, 0")] {
-        let found = tried_at_top(alloc, &over, What::Last { stream }, 0)?;
-        assert!(rt; found.as_str() == expected, "{stream}: {found}");
+        told(
+            &rt,
+            tried_at_top(alloc, &over, What::Last { stream }, 0),
+            expected,
+        )?;
     }
     Ok(())
 }
