@@ -1,5 +1,5 @@
 -- JSON as data, part by part.
-use Rattle.std.proofs.Common.{◌≡◌, ℕ, suc, ℤ, pos, negsuc, ◌^◌, ◌<◌, Bool, true, false, List, [], ◌∷◌, ◌++◌, map, Option, Some, None, option_map, Ordering, Less, Equal, Greater, refl, sym, ap, ◌∙◌, arith}
+use Rattle.std.proofs.Common.{◌≡◌, ℕ, suc, ℤ, pos, negsuc, ◌^◌, ◌<◌, Bool, true, false, List, [], ◌∷◌, ◌++◌, ◌+◌, length, map, take, drop, get_or, w64, Option, Some, None, option_map, Ordering, Less, Equal, Greater, refl, sym, ap, ◌∙◌, arith}
 use Rattle.std.specs.Prelude.{◌||◌, option_and_then}
 use Rattle.std.specs.Ordering.{match_ordering, nat_cmp}
 use Rattle.std.specs.Cmp.Lexicographic.{slice_cmp}
@@ -9,7 +9,14 @@ use Rattle.serde_json.specs.Data as json_data
 use Rattle.serde_json.specs.Data.{Data, Num}
 use Rattle.serde_json.specs.Read.{number_of, of_json, of_items, of_members}
 use Rattle.serde_json.specs.Written.{has_float, items_have_float, members_have_float}
-use Rattle.serde_json.specs.View.{items_of}
+use Rattle.serde_json.specs.View.{view, items_of, items_view}
+use Rattle.serde_json.specs.declared.value.Value.{Value}
+use Rattle.std.specs.Int.RustNames.{FitsSigned}
+use Rattle.flight_tree.specs.declared.json_value.Json.{Json}
+use Rattle.flight_tree.specs.declared.json_value.Member.{Member}
+use Rattle.flight_tree.specs.Values.{json_of, member_of}
+use Rattle.flight_parse.specs.Kept.{IsValueOf}
+use Rattle.flight_parse.proofs.Firsts.{more, taken, map_last}
 use Rattle.serde_json.specs.Find.{of_integer}
 use Rattle.serde_json.proofs.Numbers.{number_of-decimal, number_of-negative}
 use Rattle.flight_syntax.specs.Lexicon.{Placed}
@@ -79,3 +86,28 @@ put_whole k d (json_data.member l x ms) f e = by (slice_cmp nat_cmp k l) (put_wh
     by Less again = or_false (has_float d) (members_have_float (json_data.member l x ms)) f e
     by Equal again = or_false (has_float d) (members_have_float ms) f p.1
     by Greater again = or_false (has_float x) (members_have_float (json_data.put k d ms)) p.0 again
+
+-- ---- over a list
+
+pub values_read : (items : List Json) (i : ℕ) (x : Json) → i < length items → x ≡ get_or items i x → (old new : List Value) (v : Value) → of_items (json_items_of (map json_of (take i items))) ≡ Some (items_view old)
+    → of_json (json_of x) ≡ Some (view v) → new ≡ old ++ v ∷ [] → of_items (json_items_of (map json_of (take (i + 1) items))) ≡ Some (items_view new)
+values_read items i x l is old new v inv f push =
+    ap (λ z. of_items (json_items_of z)) (ap (map json_of) (taken items i x l is) ∙ map_last json_of (take i items) x)
+    ∙ (one_item (map json_of (take i items)) (json_of x) (map view old) (view v) inv f ∙ ap (λ z. Some (items_of z)) (sym (ap (map view) push ∙ map_last view old v)))
+
+pub values_whole : (old new : List Value) (v : Value) → items_have_float (items_view old) ≡ false → has_float (view v) ≡ false → new ≡ old ++ v ∷ [] → items_have_float (items_view new) ≡ false
+values_whole old new v inv f push = ap (λ z. items_have_float (items_of z)) (ap (map view) push ∙ map_last view old v) ∙ one_whole (map view old) (view v) inv f
+
+pub members_read : (members : List Member) (i : ℕ) (x : Member) → i < length members → x ≡ get_or members i x → (found new : json_data.Members) (d : Data) (total : Option json_data.Members)
+    → of_members (json_members_of (map member_of (drop i members))) found ≡ total → of_json (member_of x).1 ≡ Some d → new ≡ json_data.put (member_of x).0.bytes d found
+    → of_members (json_members_of (map member_of (drop (i + 1) members))) new ≡ total
+members_read members i x l is found new d total inv f e =
+    ap (of_members (json_members_of (map member_of (drop (i + 1) members)))) e
+    ∙ one_member (member_of x) (map member_of (drop (i + 1) members)) found d total (ap (λ z. of_members (json_members_of (map member_of z)) found) (sym (more members i x l is)) ∙ inv) f
+
+pub members_whole : (k : List ℕ) (d : Data) (found new : json_data.Members) → has_float d ≡ false → members_have_float found ≡ false → new ≡ json_data.put k d found → members_have_float new ≡ false
+members_whole k d found new f inv e = ap members_have_float e ∙ put_whole k d found f inv
+
+pub whole_value : (v : Value) (z : ℤ) → FitsSigned w64 z → view v ≡ json_data.number (of_integer z) → IsValueOf v (json.number (signed_decimal z))
+whole_value v (pos n) fits e = record { is_read = number_read (pos n) (whole_number (pos n) n refl (omega (arith, fits.sfits))) ∙ ap (λ z. Some z) (sym e); whole = ap has_float e ∙ no_float (pos n) }
+whole_value v (negsuc n) fits e = record { is_read = number_read (negsuc n) (below_zero (negsuc n) n refl (omega (arith, fits.sfits))) ∙ ap (λ z. Some z) (sym e); whole = ap has_float e ∙ no_float (negsuc n) }

@@ -1,5 +1,5 @@
 -- What is kept of declarations without a fault is what they mean.
-use Rattle.std.proofs.Common.{◌≡◌, ℕ, Bool, true, false, List, [], ◌∷◌, map, Option, Some, None, option_map, refl, sym, subst, ◌∙◌, if◌then◌else◌, nat_lt}
+use Rattle.std.proofs.Common.{◌≡◌, ℕ, ◌+◌, ◌<◌, ◌++◌, length, take, get_or, ap, Bool, true, false, List, [], ◌∷◌, map, Option, Some, None, option_map, refl, sym, subst, ◌∙◌, if◌then◌else◌, nat_lt}
 use Rattle.std.specs.List.{AllZip}
 use Rattle.flight_syntax.specs.Tree as tree
 use Rattle.flight_syntax.specs.Tree.{Declaration}
@@ -17,6 +17,7 @@ use Rattle.flight_tree.specs.declared.fault.TreeFault.TheVariants as trees
 use Rattle.flight_tree.specs.Reports.{IsFaultOf}
 use Rattle.flight_parse.specs.Names.{fault_of, IsFirst}
 use Rattle.flight_parse.specs.Kept.{IsKept}
+use Rattle.flight_parse.proofs.Firsts.{taken, map_last}
 use Rattle.flight_parse.specs.Reports.{IsParseFault, of_tree, of_name}
 
 body_said : (all : List Declaration) (scope kept : List (List ℕ)) (b : tree.Tree) (t : _) → Means all scope b (meaning all scope b) → kept ≡ scope → t ≡ meaning all scope b → Means all kept b t
@@ -71,3 +72,17 @@ to_tree_fault text (trees.Lex f) h = h
 to_tree_fault text (trees.Unexpected at) h = h
 to_tree_fault text (trees.TooDeep at) h = h
 to_tree_fault text trees.Memory h = tt
+
+-- ---- one more is kept
+
+zip_last : {A B : Type 0} (R : A → B → Type 0) (xs : List A) (ys : List B) (x : A) (y : B) → AllZip R xs ys → R x y → AllZip R (xs ++ x ∷ []) (ys ++ y ∷ [])
+zip_last R [] [] x y z r = (r, z)
+zip_last R [] (b ∷ ys) x y z r = absurd z
+zip_last R (a ∷ xs) [] x y z r = absurd z
+zip_last R (a ∷ xs) (b ∷ ys) x y z r = (z.0, zip_last R xs ys x y z.1 r)
+
+pub kept_steps : {A B X Y : Type 0} (R : X → Y → Type 0) (f : A → X) (g : B → Y) (xs : List A) (i : ℕ) (x : A) → i < length xs → x ≡ get_or xs i x → (old new : List B) (y : B)
+    → AllZip R (map f (take i xs)) (map g old) → R (f x) (g y) → new ≡ old ++ y ∷ [] → AllZip R (map f (take (i + 1) xs)) (map g new)
+kept_steps R f g xs i x l is old new y z r e =
+    subst (λ us. AllZip R us (map g new)) (sym (ap (map f) (taken xs i x l is) ∙ map_last f (take i xs) x))
+      (subst (λ us. AllZip R (map f (take i xs) ++ f x ∷ []) us) (sym (ap (map g) e ∙ map_last g old y)) (zip_last R (map f (take i xs)) (map g old) (f x) (g y) z r))

@@ -1,12 +1,15 @@
 -- Variables: whether one is in scope, and its number.
-use Rattle.std.proofs.Common.{◌≡◌, ℕ, zero, suc, ◌+◌, ◌<◌, Bool, true, false, List, [], ◌∷◌, ◌++◌, map, length, take, Option, Some, None, option_map, refl, sym, ap, ◌∙◌, if◌then◌else◌, arith}
+use Rattle.std.proofs.Common.{◌≡◌, ℕ, zero, suc, ◌+◌, ◌<◌, Bool, true, false, List, [], ◌∷◌, ◌++◌, map, length, take, Option, Some, None, option_map, refl, sym, ap, ◌∙◌, if◌then◌else◌, arith, Bor}
 use Rattle.std.specs.Prelude.{◌||◌, is_some, cond, Result, Ok, Err, OnOk}
 use Rattle.std.specs.Str.{bytes_eq}
 use Rattle.flight_syntax.specs.Lexicon.{Placed}
 use Rattle.flight_syntax.specs.Faults.{is_named}
-use Rattle.flight_syntax.specs.Meaning.{occurs, innermost}
+use Rattle.flight_syntax.specs.Meaning.{occurs, innermost, given}
 use Rattle.flight_syntax.specs.Derives.{bytes_of}
-use Rattle.flight_parse.specs.Names.{variable_number, inside_out}
+use Rattle.flight_tree.specs.declared.lexeme.Name.{Name}
+use Rattle.flight_tree.specs.Code.{placed}
+use Rattle.flight_parse.specs.declared.body.Body.{Body}
+use Rattle.flight_parse.specs.Names.{variable_number, inside_out, params_of, scope_of, names_of}
 
 append_nil : {A : Type 0} (xs : List A) → xs ++ [] ≡ xs
 append_nil [] = refl
@@ -112,13 +115,42 @@ variable_known params locals q =
     some_number (occurs q (bytes_of params ++ bytes_of locals)) (innermost (bytes_of params ++ bytes_of locals) q)
     ∙ sym (named_in q params (bytes_of params) (named_params params q) locals)
 
--- the number, where it does not matter which without one
-pub variable_given : (scope : List (List ℕ)) (q : List ℕ) (o : Option ℕ) → o ≡ variable_number scope q → (n : ℕ) → o ≡ Some n → n ≡ innermost scope q
-variable_given scope q o e n is = by (occurs q scope) (sym is ∙ e)
+-- the same, of names in memory
+same_params : (params : List Name) → bytes_of (map placed params) ≡ map (λ n. n.bytes) params
+same_params [] = refl
+same_params (n ∷ params) = ap (λ x. n.bytes ∷ x) (same_params params)
+
+same_locals : (locals : List (Bor Name)) → bytes_of (map (λ n. placed n.now) locals) ≡ map (λ n. n.now.bytes) locals
+same_locals [] = refl
+same_locals (n ∷ locals) = ap (λ x. n.now.bytes ∷ x) (same_locals locals)
+
+pub same_names : (body : Body) (locals : List (Bor Name)) → bytes_of (params_of body) ++ bytes_of (map (λ n. placed n.now) locals) ≡ names_of body locals
+same_names body locals = ap (λ x. x ++ bytes_of (map (λ n. placed n.now) locals)) (same_params body.params.now) ∙ ap (λ x. map (λ n. n.bytes) body.params.now ++ x) (same_locals locals)
+
+pub name_known : (body : Body) (locals : List (Bor Name)) (q : List ℕ) → is_some (variable_number (names_of body locals) q) ≡ is_named q (scope_of body locals)
+name_known body locals q =
+    ap (λ s. is_some (variable_number s q)) (sym (same_names body locals)) ∙ variable_known (params_of body) (map (λ n. placed n.now) locals) q
+
+-- without locals
+pub no_locals : (body : Body) → names_of body [] ≡ bytes_of (params_of body)
+no_locals body = sym (same_names body []) ∙ append_nil (bytes_of (params_of body))
+
+-- a number, or 0 where there is none
+zero_of : (scope : List (List ℕ)) (q : List ℕ) → occurs q scope ≡ false → innermost scope q ≡ 0
+zero_of [] q e = refl
+zero_of (n ∷ scope) q e = by (bytes_eq n q) (occurs q scope) e
   where
-    by : (b : Bool) → Some n ≡ (if b then Some (innermost scope q) else None) → n ≡ innermost scope q
-    by true h = cc
-    by false h = absurd cc
+    by : (b o : Bool) → (if b then true else o) ≡ false → (if o then suc (innermost scope q) else zero) ≡ 0
+    by true o e = absurd cc
+    by false true e = absurd cc
+    by false false e = refl
+
+pub given_number : (scope : List (List ℕ)) (q : List ℕ) → given (variable_number scope q) ≡ innermost scope q
+given_number scope q = by (occurs q scope) refl
+  where
+    by : (b : Bool) → occurs q scope ≡ b → given (if b then Some (innermost scope q) else None) ≡ innermost scope q
+    by true e = refl
+    by false e = sym (zero_of scope q e)
 
 -- ---- one local more
 
@@ -135,18 +167,21 @@ names_one params locals n = ap (λ x. bytes_of params ++ x) (bytes_one locals n)
 
 -- ---- one name more, found or not
 
-length_bytes : (names : List Placed) → length (bytes_of names) ≡ length names
-length_bytes [] = refl
-length_bytes (n ∷ names) = ap suc (length_bytes names)
-
 -- what a table has for a name, with one parameter more
-pub numbered_one : (params : List Placed) (n : Placed) (q : List ℕ) (at : ℕ) (old new : Option ℕ) → at ≡ length params → old ≡ variable_number (bytes_of params) q
-    → new ≡ cond (bytes_eq n.bytes q) (Some at) old → new ≡ variable_number (bytes_of (params ++ n ∷ [])) q
+pub numbered_one : (params : List (List ℕ)) (n q : List ℕ) (at : ℕ) (old new : Option ℕ) → at ≡ length params → old ≡ variable_number params q
+    → new ≡ cond (bytes_eq n q) (Some at) old → new ≡ variable_number (params ++ n ∷ []) q
 numbered_one params n q at old new here known more =
     more
-    ∙ (ap (cond (bytes_eq n.bytes q) (Some at)) known
-    ∙ (ap (λ k. cond (bytes_eq n.bytes q) (Some k) (variable_number (bytes_of params) q)) (here ∙ sym (length_bytes params))
-    ∙ (sym (last_in (bytes_of params) n.bytes q) ∙ ap (λ s. variable_number s q) (sym (bytes_one params n)))))
+    ∙ (ap (cond (bytes_eq n q) (Some at)) known
+    ∙ (ap (λ k. cond (bytes_eq n q) (Some k) (variable_number params q)) here ∙ sym (last_in params n q)))
+
+pub number_inside : (before locals : List (List ℕ)) (q : List ℕ) (inner : Option ℕ) (at params n : ℕ) → inner ≡ Some at → params ≡ length before → inner ≡ variable_number locals q → n ≡ at + params
+    → Some n ≡ variable_number (before ++ locals) q
+number_inside before locals q inner at params n is here known sum =
+    ap (λ m. Some m) (sum ∙ ap (λ k. at + k) here) ∙ in_inner before locals q at (sym known ∙ is)
+
+pub number_outside : (before locals : List (List ℕ)) (q : List ℕ) (inner outer : Option ℕ) → inner ≡ None → inner ≡ variable_number locals q → outer ≡ variable_number before q → outer ≡ variable_number (before ++ locals) q
+number_outside before locals q inner outer is known found = found ∙ in_outer before locals q (sym known ∙ is)
 
 -- the last of a name, with one local more
 pub last_found : (locals : List (List ℕ)) (n q : List ℕ) (at : ℕ) → at ≡ length locals → bytes_eq n q ≡ true → Some at ≡ variable_number (locals ++ n ∷ []) q
@@ -158,3 +193,13 @@ last_other locals n q found known e = known ∙ (ap (λ b. cond b (Some (length 
 pub on_ok : {A E P Q : Type 0} (r : Result A E) → (P → Q) → OnOk r P → OnOk r Q
 on_ok (Ok x) f p = f p
 on_ok (Err e) f p = tt
+
+pub none_in : (params : List Name) (locals : List (Bor Name)) → locals ≡ [] → map (λ n. n.bytes) params ++ map (λ n. n.now.bytes) locals ≡ bytes_of (map placed params)
+none_in params locals e = ap (λ z. map (λ n. n.bytes) params ++ map (λ n. n.now.bytes) z) e ∙ (append_nil (map (λ n. n.bytes) params) ∙ sym (same_params params))
+
+placed_each : (names : List (Bor Name)) → map (λ n. placed n.now) names ≡ map placed (map (λ n. n.now) names)
+placed_each [] = refl
+placed_each (n ∷ names) = ap (λ x. placed n.now ∷ x) (placed_each names)
+
+pub placed_references : (references : List (Bor Name)) (names : List Name) → map (λ n. n.now) references ≡ names → map (λ n. placed n.now) references ≡ map placed names
+placed_references references names e = placed_each references ∙ ap (map placed) e

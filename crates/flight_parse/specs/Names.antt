@@ -1,5 +1,6 @@
 -- What names are looked up in, and their faults as the code has them.
 use Rattle.std.specs.Prelude.{ℕ, ◌≡◌, List, [], ◌∷◌, ◌++◌, map, Bool, Option, Some, None, option_map, if◌then◌else◌}
+use Rattle.std.specs.Borrow.{Bor}
 use Rattle.std.specs.Str.{bytes_eq}
 use Rattle.std.specs.HashMap.{HashMap, get}
 use Rattle.flight_syntax.specs.Lexicon.{Placed}
@@ -8,7 +9,7 @@ use Rattle.flight_syntax.specs.Scope.{is_server, is_client, is_action, server_nu
 use Rattle.flight_syntax.specs.Faults as faults
 use Rattle.flight_syntax.specs.Faults.{first_fault}
 use Rattle.flight_syntax.specs.Meaning.{occurs, innermost}
-use Rattle.flight_syntax.specs.Derives.{bytes_of}
+use Rattle.flight_tree.specs.declared.lexeme.Name.{Name}
 use Rattle.flight_tree.specs.Code.{placed}
 use Rattle.flight_tree.specs.Declarations.{declaration_of}
 use Rattle.flight_parse.specs.declared.tables.Kind.{Kind}
@@ -57,14 +58,14 @@ params_of body = map placed body.params.now
 -- the tables are those of the declarations and of the parameters
 pub record IsKnown (body : Body) : Type 0 where
   pub tables : AreTables body.tables.now (all_of body)
-  pub numbers : Knows body.numbers.now (variable_number (bytes_of (params_of body)))
+  pub numbers : Knows body.numbers.now (variable_number (map (λ n. n.bytes) body.params.now))
 
--- what is in scope under locals, from the inside out, and from the outside in
-abbrev pub scope_of : Body → List Placed → List Placed
-scope_of body locals = inside_out (params_of body) locals
+-- what is in scope under locals, from the inside out, and the names from the outside in
+abbrev pub scope_of : Body → List (Bor Name) → List Placed
+scope_of body locals = inside_out (params_of body) (map (λ n. placed n.now) locals)
 
-abbrev pub names_of : Body → List Placed → List (List ℕ)
-names_of body locals = bytes_of (params_of body) ++ bytes_of locals
+abbrev pub names_of : Body → List (Bor Name) → List (List ℕ)
+names_of body locals = map (λ n. n.bytes) body.params.now ++ map (λ n. n.now.bytes) locals
 
 -- ---- faults
 

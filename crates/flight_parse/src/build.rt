@@ -1,8 +1,9 @@
-ghost use Rattle.std.specs.Prelude.{◌≡◌, IfOk, map};
+ghost use Rattle.std.specs.Prelude.{◌≡◌, ℕ, List, IfOk, map};
 ghost use Rattle.flight_syntax.specs.Term.{term, prop};
 ghost use Rattle.flight_syntax.specs.Term as terms;
 ghost use Rattle.flight_syntax.specs.Scope.{client_number, action_number, tag_of};
-ghost use Rattle.flight_syntax.specs.Meaning.{innermost, given, given_tag};
+ghost use Rattle.flight_syntax.specs.Meaning.{innermost, given, given_tag, meaning, meanings};
+ghost use Rattle.flight_syntax.specs.Tree as tree;
 ghost use Rattle.flight_tree.specs.Code.{placed};
 ghost use Rattle.flight_parse.specs.Names.{IsKnown, all_of, names_of};
 
@@ -95,10 +96,19 @@ pub fn binary(alloc: Global, op: Op, left: Expr, right: Expr) -> Result<Expr, Me
 /// A variable, the innermost of its name.
 pub fn variable_of(body: &Body<'_>, locals: &[&Name], name: &Name) -> Result<Expr, Memory>
     requires { IsKnown body.now }
-    ensures { IfOk result (λ e. term e ≡ terms.variable (innermost (names_of body.now (map (λ n. placed n.now) locals.now)) name.now.bytes)) }
+    ensures { IfOk result (λ e. term e ≡ terms.variable (innermost (names_of body.now locals.now) name.now.bytes)) }
+{
+    let number = variable_number(body, locals, name)?;
+    Ok(Expr::Variable(number))
+}
+
+/// The number of the innermost variable of a name, or 0 where there is none.
+fn variable_number(body: &Body<'_>, locals: &[&Name], name: &Name) -> Result<u32, Memory>
+    requires { IsKnown body.now }
+    ensures { IfOk result (λ number. number ≡ innermost (names_of body.now locals.now) name.now.bytes) }
 {
     let number = variable(body, locals, &name.bytes)?;
-    Ok(Expr::Variable(given(number)))
+    Ok(given(number))
 }
 
 /// A client component.
@@ -110,25 +120,26 @@ pub fn client(body: &Body<'_>, name: &Name) -> Expr
 }
 
 /// An action.
-pub fn action(body: &Body<'_>, name: &Name) -> Expr
+pub fn action(body: &Body<'_>, locals: &[&Name], name: &Name) -> Result<Expr, Memory>
     requires { IsKnown body.now }
-    ensures { term result ≡ terms.action (given (action_number (all_of body.now) name.now.bytes)) }
+    ensures { IfOk result (λ e. term e ≡ meaning (all_of body.now) (names_of body.now locals.now) (tree.action (placed name.now))) }
 {
     let action = action_number(body, name);
-    Expr::Action {
+    Ok(Expr::Action {
         action,
         bound: None,
-    }
+    })
 }
 
 /// An action and its arguments.
-pub fn action_with(body: &Body<'_>, name: &Name, bound: Items<Expr>) -> Expr
+pub fn action_with(body: &Body<'_>, name: &Name, bound: Items<Expr>) -> Result<Expr, Memory>
     requires { IsKnown body.now }
-    ensures { term result ≡ terms.action_with (given (action_number (all_of body.now) name.now.bytes)) (terms.terms_of (map term bound)) }
+    ensures { (scope : List (List ℕ)) (trees : tree.Trees) → terms.terms_of (map term bound) ≡ meanings (all_of body.now) scope trees
+        → IfOk result (λ e. term e ≡ meaning (all_of body.now) scope (tree.action_with (placed name.now) trees)) }
 {
     let action = action_number(body, name);
     let bound = Some(bound);
-    Expr::Action { action, bound }
+    Ok(Expr::Action { action, bound })
 }
 
 /// An element.

@@ -1,4 +1,4 @@
-ghost use Rattle.std.specs.Prelude.{IfOk, ◌++◌, [], List, map};
+ghost use Rattle.std.specs.Prelude.{◌≡◌, IfOk, ◌++◌, [], List, map, if◌then◌else◌};
 ghost use Rattle.flight_syntax.specs.Tree.{trees_of, props_of};
 ghost use Rattle.flight_syntax.specs.Faults as faults;
 ghost use Rattle.flight_syntax.specs.Faults.{is_named};
@@ -37,10 +37,24 @@ pub fn own_fault(alloc: Global, body: &Body<'_>, tag: &Name, attributes: &[Prope
 fn beside_children(children: &[Tree], names: &[&Name]) -> Result<Option<NameFault>, Memory>
     ensures { IfOk result (λ fault. IsFirst fault (faults.beside_children (trees_of (map tree_of children.now)) (map (λ n. placed n.now) names.now))) }
 {
+    children_if(has_children(children), names)
+}
+
+/// Whether there are children.
+fn has_children(children: &[Tree]) -> bool
+    ensures { (names : List Placed) → faults.beside_children (trees_of (map tree_of children.now)) names ≡ (if result then faults.children_attributes names else []) }
+{
     match children {
-        [] => Ok(None),
-        [_, ..] => children_attribute(names),
+        [] => false,
+        [_, ..] => true,
     }
+}
+
+/// The first attribute `children`, if there are children.
+fn children_if(some: bool, names: &[&Name]) -> Result<Option<NameFault>, Memory>
+    ensures { IfOk result (λ fault. IsFirst fault (if some then faults.children_attributes (map (λ n. placed n.now) names.now) else [])) }
+{
+    if some { children_attribute(names) } else { Ok(None) }
 }
 
 /// The first attribute `key`, of a server component.

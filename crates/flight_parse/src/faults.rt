@@ -19,7 +19,7 @@ use std::alloc::Global;
 #[cycle(faults)]
 pub fn in_tree<'a>(alloc: Global, body: &Body<'_>, locals: &[&'a Name], tree: &'a Tree) -> Result<Option<NameFault>, Memory>
     requires { IsKnown body.now }
-    ensures { IfOk result (λ fault. IsFirst fault (faults.faults (all_of body.now) (scope_of body.now (map (λ n. placed n.now) locals.now)) (tree_of tree.now))) }
+    ensures { IfOk result (λ fault. IsFirst fault (faults.faults (all_of body.now) (scope_of body.now locals.now) (tree_of tree.now))) }
 {
     match tree {
         Tree::Let { name, value, then } => in_local(alloc, body, locals, name, value.get(), then.get()),
@@ -54,7 +54,7 @@ pub fn in_tree<'a>(alloc: Global, body: &Body<'_>, locals: &[&'a Name], tree: &'
 #[cycle(faults)]
 fn in_local<'a>(alloc: Global, body: &Body<'_>, locals: &[&'a Name], name: &'a Name, value: &'a Tree, then: &'a Tree) -> Result<Option<NameFault>, Memory>
     requires { IsKnown body.now }
-    ensures { IfOk result (λ fault. IsFirst fault (faults.faults (all_of body.now) (scope_of body.now (map (λ n. placed n.now) locals.now)) (tree_of value.now) ++ faults.faults (all_of body.now) (placed name.now ∷ scope_of body.now (map (λ n. placed n.now) locals.now)) (tree_of then.now))) }
+    ensures { IfOk result (λ fault. IsFirst fault (faults.faults (all_of body.now) (scope_of body.now locals.now) (tree_of value.now) ++ faults.faults (all_of body.now) (placed name.now ∷ scope_of body.now locals.now) (tree_of then.now))) }
 {
     let first = in_tree(alloc, body, locals, value)?;
     let inner = with_local(alloc, locals, name)?;
@@ -66,7 +66,7 @@ fn in_local<'a>(alloc: Global, body: &Body<'_>, locals: &[&'a Name], name: &'a N
 #[cycle(faults)]
 fn in_two<'a>(alloc: Global, body: &Body<'_>, locals: &[&'a Name], one: &'a Tree, other: &'a Tree) -> Result<Option<NameFault>, Memory>
     requires { IsKnown body.now }
-    ensures { IfOk result (λ fault. IsFirst fault (faults.faults (all_of body.now) (scope_of body.now (map (λ n. placed n.now) locals.now)) (tree_of one.now) ++ faults.faults (all_of body.now) (scope_of body.now (map (λ n. placed n.now) locals.now)) (tree_of other.now))) }
+    ensures { IfOk result (λ fault. IsFirst fault (faults.faults (all_of body.now) (scope_of body.now locals.now) (tree_of one.now) ++ faults.faults (all_of body.now) (scope_of body.now locals.now) (tree_of other.now))) }
 {
     let first = in_tree(alloc, body, locals, one)?;
     let second = in_tree(alloc, body, locals, other)?;
@@ -77,7 +77,7 @@ fn in_two<'a>(alloc: Global, body: &Body<'_>, locals: &[&'a Name], one: &'a Tree
 #[cycle(faults)]
 fn in_three<'a>(alloc: Global, body: &Body<'_>, locals: &[&'a Name], one: &'a Tree, two: &'a Tree, three: &'a Tree) -> Result<Option<NameFault>, Memory>
     requires { IsKnown body.now }
-    ensures { IfOk result (λ fault. IsFirst fault (faults.faults (all_of body.now) (scope_of body.now (map (λ n. placed n.now) locals.now)) (tree_of one.now) ++ (faults.faults (all_of body.now) (scope_of body.now (map (λ n. placed n.now) locals.now)) (tree_of two.now) ++ faults.faults (all_of body.now) (scope_of body.now (map (λ n. placed n.now) locals.now)) (tree_of three.now)))) }
+    ensures { IfOk result (λ fault. IsFirst fault (faults.faults (all_of body.now) (scope_of body.now locals.now) (tree_of one.now) ++ (faults.faults (all_of body.now) (scope_of body.now locals.now) (tree_of two.now) ++ faults.faults (all_of body.now) (scope_of body.now locals.now) (tree_of three.now)))) }
 {
     let first = in_tree(alloc, body, locals, one)?;
     let others = in_two(alloc, body, locals, two, three)?;
@@ -88,7 +88,7 @@ fn in_three<'a>(alloc: Global, body: &Body<'_>, locals: &[&'a Name], one: &'a Tr
 #[cycle(faults)]
 fn in_bound<'a>(alloc: Global, body: &Body<'_>, locals: &[&'a Name], name: &'a Name, bound: &'a [Tree]) -> Result<Option<NameFault>, Memory>
     requires { IsKnown body.now }
-    ensures { IfOk result (λ fault. IsFirst fault (faults.unless_known (faults.is_named name.now.bytes (faults.actions (all_of body.now))) (placed name.now) ++ faults.faults_each (all_of body.now) (scope_of body.now (map (λ n. placed n.now) locals.now)) (trees_of (map tree_of bound.now)))) }
+    ensures { IfOk result (λ fault. IsFirst fault (faults.unless_known (faults.is_named name.now.bytes (faults.actions (all_of body.now))) (placed name.now) ++ faults.faults_each (all_of body.now) (scope_of body.now locals.now) (trees_of (map tree_of bound.now)))) }
 {
     let unknown = unknown_action(body, name)?;
     let others = in_each(alloc, body, locals, bound)?;
@@ -99,7 +99,7 @@ fn in_bound<'a>(alloc: Global, body: &Body<'_>, locals: &[&'a Name], name: &'a N
 #[cycle(faults)]
 fn in_object<'a>(alloc: Global, body: &Body<'_>, locals: &[&'a Name], properties: &'a [Property]) -> Result<Option<NameFault>, Memory>
     requires { IsKnown body.now }
-    ensures { IfOk result (λ fault. IsFirst fault (faults.repeated [] (faults.property_names (props_of (map property_of properties.now))) ++ faults.faults_props (all_of body.now) (scope_of body.now (map (λ n. placed n.now) locals.now)) (props_of (map property_of properties.now)))) }
+    ensures { IfOk result (λ fault. IsFirst fault (faults.repeated [] (faults.property_names (props_of (map property_of properties.now))) ++ faults.faults_props (all_of body.now) (scope_of body.now locals.now) (props_of (map property_of properties.now)))) }
 {
     let names = property_names(alloc, properties)?;
     let twice = repeated(alloc, names.as_slice())?;
@@ -111,7 +111,7 @@ fn in_object<'a>(alloc: Global, body: &Body<'_>, locals: &[&'a Name], properties
 #[cycle(faults)]
 fn in_element<'a>(alloc: Global, body: &Body<'_>, locals: &[&'a Name], tag: &'a Name, attributes: &'a [Property], children: &'a [Tree]) -> Result<Option<NameFault>, Memory>
     requires { IsKnown body.now }
-    ensures { IfOk result (λ fault. IsFirst fault (faults.faults (all_of body.now) (scope_of body.now (map (λ n. placed n.now) locals.now)) (tree.element (placed tag.now) (props_of (map property_of attributes.now)) (trees_of (map tree_of children.now))))) }
+    ensures { IfOk result (λ fault. IsFirst fault (faults.faults (all_of body.now) (scope_of body.now locals.now) (tree.element (placed tag.now) (props_of (map property_of attributes.now)) (trees_of (map tree_of children.now))))) }
 {
     let others = in_properties(alloc, body, locals, attributes)?;
     let inside = in_each(alloc, body, locals, children)?;
@@ -123,7 +123,7 @@ fn in_element<'a>(alloc: Global, body: &Body<'_>, locals: &[&'a Name], tag: &'a 
 #[cycle(faults)]
 fn in_each<'a>(alloc: Global, body: &Body<'_>, locals: &[&'a Name], items: &'a [Tree]) -> Result<Option<NameFault>, Memory>
     requires { IsKnown body.now }
-    ensures { IfOk result (λ fault. IsFirst fault (faults.faults_each (all_of body.now) (scope_of body.now (map (λ n. placed n.now) locals.now)) (trees_of (map tree_of items.now)))) }
+    ensures { IfOk result (λ fault. IsFirst fault (faults.faults_each (all_of body.now) (scope_of body.now locals.now) (trees_of (map tree_of items.now)))) }
 {
     let mut first = None;
     for item in items {
@@ -137,11 +137,11 @@ fn in_each<'a>(alloc: Global, body: &Body<'_>, locals: &[&'a Name], items: &'a [
 #[cycle(faults)]
 fn in_properties<'a>(alloc: Global, body: &Body<'_>, locals: &[&'a Name], properties: &'a [Property]) -> Result<Option<NameFault>, Memory>
     requires { IsKnown body.now }
-    ensures { IfOk result (λ fault. IsFirst fault (faults.faults_props (all_of body.now) (scope_of body.now (map (λ n. placed n.now) locals.now)) (props_of (map property_of properties.now)))) }
+    ensures { IfOk result (λ fault. IsFirst fault (faults.faults_props (all_of body.now) (scope_of body.now locals.now) (props_of (map property_of properties.now)))) }
 {
     let mut first = None;
     for property in properties {
-        let fault = in_tree(alloc, body, locals, &property.value)?;
+        let fault = in_property(alloc, body, locals, property)?;
         first = first_of(first, fault);
     }
     Ok(first)
@@ -151,12 +151,30 @@ fn in_properties<'a>(alloc: Global, body: &Body<'_>, locals: &[&'a Name], proper
 #[cycle(faults)]
 fn in_entries<'a>(alloc: Global, body: &Body<'_>, locals: &[&'a Name], entries: &'a [Entry]) -> Result<Option<NameFault>, Memory>
     requires { IsKnown body.now }
-    ensures { IfOk result (λ fault. IsFirst fault (faults.faults_pairs (all_of body.now) (scope_of body.now (map (λ n. placed n.now) locals.now)) (pairs_of (map entry_of entries.now)))) }
+    ensures { IfOk result (λ fault. IsFirst fault (faults.faults_pairs (all_of body.now) (scope_of body.now locals.now) (pairs_of (map entry_of entries.now)))) }
 {
     let mut first = None;
     for entry in entries {
-        let fault = in_two(alloc, body, locals, &entry.key, &entry.value)?;
+        let fault = in_entry(alloc, body, locals, entry)?;
         first = first_of(first, fault);
     }
     Ok(first)
+}
+
+/// In the value of a property.
+#[cycle(faults)]
+fn in_property<'a>(alloc: Global, body: &Body<'_>, locals: &[&'a Name], property: &'a Property) -> Result<Option<NameFault>, Memory>
+    requires { IsKnown body.now }
+    ensures { IfOk result (λ fault. IsFirst fault (faults.faults (all_of body.now) (scope_of body.now locals.now) (property_of property.now).1)) }
+{
+    in_tree(alloc, body, locals, &property.value)
+}
+
+/// In an entry of a map.
+#[cycle(faults)]
+fn in_entry<'a>(alloc: Global, body: &Body<'_>, locals: &[&'a Name], entry: &'a Entry) -> Result<Option<NameFault>, Memory>
+    requires { IsKnown body.now }
+    ensures { IfOk result (λ fault. IsFirst fault (faults.faults (all_of body.now) (scope_of body.now locals.now) (entry_of entry.now).0 ++ faults.faults (all_of body.now) (scope_of body.now locals.now) (entry_of entry.now).1)) }
+{
+    in_two(alloc, body, locals, &entry.key, &entry.value)
 }

@@ -1,4 +1,4 @@
-ghost use Rattle.std.specs.Prelude.{◌≡◌, IfOk, map, ◌∷◌, [], if◌then◌else◌};
+ghost use Rattle.std.specs.Prelude.{◌≡◌, ◌||◌, IfOk};
 ghost use Rattle.flight_syntax.specs.Faults as faults;
 ghost use Rattle.flight_syntax.specs.Faults.{is_named};
 ghost use Rattle.flight_tree.specs.Code.{placed};
@@ -14,10 +14,10 @@ use flight_value::Memory;
 /// A name that is no variable in scope.
 pub fn unknown_variable(body: &Body<'_>, locals: &[&Name], name: &Name) -> Result<Option<NameFault>, Memory>
     requires { IsKnown body.now }
-    ensures { IfOk result (λ fault. IsFirst fault (faults.unless_known (is_named name.now.bytes (scope_of body.now (map (λ n. placed n.now) locals.now))) (placed name.now))) }
+    ensures { IfOk result (λ fault. IsFirst fault (faults.unless_known (is_named name.now.bytes (scope_of body.now locals.now)) (placed name.now))) }
 {
-    let number = variable(body, locals, &name.bytes)?;
-    unless_known(number.is_some(), name)
+    let known = is_variable(body, locals, name)?;
+    unless_known(known, name)
 }
 
 /// A name that is no client component.
@@ -55,6 +55,15 @@ fn unless_known(known: bool, name: &Name) -> Result<Option<NameFault>, Memory>
     }
 }
 
+/// Whether a variable in scope has the name.
+fn is_variable(body: &Body<'_>, locals: &[&Name], name: &Name) -> Result<bool, Memory>
+    requires { IsKnown body.now }
+    ensures { IfOk result (λ known. known ≡ is_named name.now.bytes (scope_of body.now locals.now)) }
+{
+    let number = variable(body, locals, &name.bytes)?;
+    Ok(number.is_some())
+}
+
 /// Whether a server component has the name.
 pub fn is_server(body: &Body<'_>, name: &Name) -> bool
     requires { IsKnown body.now }
@@ -85,7 +94,21 @@ fn is_tag(body: &Body<'_>, tag: &Name) -> bool
     ensures { result ≡ faults.is_tag (all_of body.now) tag.now.bytes }
 {
     is_lower(tag.bytes.as_str().as_bytes())
-        || is_server(body, tag)
-        || is_client(body, tag)
+        || is_component(body, tag)
         || tag.bytes.as_str() == "Suspense"
+}
+
+/// Whether a component has the name.
+fn is_component(body: &Body<'_>, tag: &Name) -> bool
+    requires { IsKnown body.now }
+    ensures { result ≡ is_named tag.now.bytes (faults.components (all_of body.now)) }
+{
+    either(is_server(body, tag), is_client(body, tag))
+}
+
+/// Whether one of two holds.
+fn either(one: bool, other: bool) -> bool
+    ensures { result ≡ one || other }
+{
+    one || other
 }

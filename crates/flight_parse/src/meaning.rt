@@ -18,7 +18,7 @@ use std::alloc::Global;
 #[cycle(meaning)]
 pub fn expr_of<'a>(alloc: Global, body: &Body<'_>, locals: &[&'a Name], tree: &'a Tree) -> Result<Expr, Memory>
     requires { IsKnown body.now }
-    ensures { IfOk result (λ e. term e ≡ meaning (all_of body.now) (names_of body.now (map (λ n. placed n.now) locals.now)) (tree_of tree.now)) }
+    ensures { IfOk result (λ e. term e ≡ meaning (all_of body.now) (names_of body.now locals.now) (tree_of tree.now)) }
 {
     match tree {
         Tree::Let { name, value, then } => {
@@ -50,11 +50,13 @@ pub fn expr_of<'a>(alloc: Global, body: &Body<'_>, locals: &[&'a Name], tree: &'
         Tree::Source(name) => Ok(Expr::Source(name.bytes.clone()?)),
         Tree::Promise(name) => Ok(Expr::Promise(name.bytes.clone()?)),
         Tree::Stream(name) => Ok(Expr::Stream(name.bytes.clone()?)),
-        Tree::Action { name, bound: None } => Ok(action(body, name)),
-        Tree::Action {
-            name,
-            bound: Some(bound),
-        } => Ok(action_with(body, name, exprs_of(alloc, body, locals, bound.as_slice())?)),
+        Tree::Action { name, bound } => match bound {
+            None => action(body, locals, name),
+            Some(bound) => {
+                let bound = exprs_of(alloc, body, locals, bound.as_slice())?;
+                action_with(body, name, bound)
+            }
+        },
         Tree::Paren(inside) => paren(alloc, expr_of(alloc, body, locals, inside.get())?),
         Tree::Binary { op, left, right } => {
             let (left, right) = two_of(alloc, body, locals, left.get(), right.get())?;
@@ -76,7 +78,7 @@ pub fn expr_of<'a>(alloc: Global, body: &Body<'_>, locals: &[&'a Name], tree: &'
 #[cycle(meaning)]
 fn local_of<'a>(alloc: Global, body: &Body<'_>, locals: &[&'a Name], name: &'a Name, value: &'a Tree, then: &'a Tree) -> Result<(Expr, Expr), Memory>
     requires { IsKnown body.now }
-    ensures { IfOk result (λ p. (term p.0 ≡ meaning (all_of body.now) (names_of body.now (map (λ n. placed n.now) locals.now)) (tree_of value.now)) × (term p.1 ≡ meaning (all_of body.now) (names_of body.now (map (λ n. placed n.now) locals.now) ++ name.now.bytes ∷ []) (tree_of then.now))) }
+    ensures { IfOk result (λ p. (term p.0 ≡ meaning (all_of body.now) (names_of body.now locals.now) (tree_of value.now)) × (term p.1 ≡ meaning (all_of body.now) (names_of body.now locals.now ++ name.now.bytes ∷ []) (tree_of then.now))) }
 {
     let value = expr_of(alloc, body, locals, value)?;
     let inner = with_local(alloc, locals, name)?;
@@ -88,7 +90,7 @@ fn local_of<'a>(alloc: Global, body: &Body<'_>, locals: &[&'a Name], name: &'a N
 #[cycle(meaning)]
 fn two_of<'a>(alloc: Global, body: &Body<'_>, locals: &[&'a Name], one: &'a Tree, other: &'a Tree) -> Result<(Expr, Expr), Memory>
     requires { IsKnown body.now }
-    ensures { IfOk result (λ p. (term p.0 ≡ meaning (all_of body.now) (names_of body.now (map (λ n. placed n.now) locals.now)) (tree_of one.now)) × (term p.1 ≡ meaning (all_of body.now) (names_of body.now (map (λ n. placed n.now) locals.now)) (tree_of other.now))) }
+    ensures { IfOk result (λ p. (term p.0 ≡ meaning (all_of body.now) (names_of body.now locals.now) (tree_of one.now)) × (term p.1 ≡ meaning (all_of body.now) (names_of body.now locals.now) (tree_of other.now))) }
 {
     let one = expr_of(alloc, body, locals, one)?;
     let other = expr_of(alloc, body, locals, other)?;
@@ -99,7 +101,7 @@ fn two_of<'a>(alloc: Global, body: &Body<'_>, locals: &[&'a Name], one: &'a Tree
 #[cycle(meaning)]
 fn exprs_of<'a>(alloc: Global, body: &Body<'_>, locals: &[&'a Name], items: &'a [Tree]) -> Result<Items<Expr>, Memory>
     requires { IsKnown body.now }
-    ensures { IfOk result (λ out. terms.terms_of (map term out) ≡ meanings (all_of body.now) (names_of body.now (map (λ n. placed n.now) locals.now)) (trees_of (map tree_of items.now))) }
+    ensures { IfOk result (λ out. terms.terms_of (map term out) ≡ meanings (all_of body.now) (names_of body.now locals.now) (trees_of (map tree_of items.now))) }
 {
     let mut out = Items::new(alloc);
     for item in items {
@@ -113,13 +115,12 @@ fn exprs_of<'a>(alloc: Global, body: &Body<'_>, locals: &[&'a Name], items: &'a 
 #[cycle(meaning)]
 fn props_in<'a>(alloc: Global, body: &Body<'_>, locals: &[&'a Name], properties: &'a [Property]) -> Result<Items<PropExpr>, Memory>
     requires { IsKnown body.now }
-    ensures { IfOk result (λ out. terms.props_of (map prop out) ≡ meaning_props (all_of body.now) (names_of body.now (map (λ n. placed n.now) locals.now)) (props_of (map property_of properties.now))) }
+    ensures { IfOk result (λ out. terms.props_of (map prop out) ≡ meaning_props (all_of body.now) (names_of body.now locals.now) (props_of (map property_of properties.now))) }
 {
     let mut out = Items::new(alloc);
     for property in properties {
-        let value = expr_of(alloc, body, locals, &property.value)?;
-        let name = property.name.bytes.clone()?;
-        out.push(PropExpr { name, value })?;
+        let property = prop_of(alloc, body, locals, property)?;
+        out.push(property)?;
     }
     Ok(out)
 }
@@ -128,12 +129,35 @@ fn props_in<'a>(alloc: Global, body: &Body<'_>, locals: &[&'a Name], properties:
 #[cycle(meaning)]
 fn pairs_in<'a>(alloc: Global, body: &Body<'_>, locals: &[&'a Name], entries: &'a [Entry]) -> Result<Items<PairExpr>, Memory>
     requires { IsKnown body.now }
-    ensures { IfOk result (λ out. terms.pairs_of (map pair out) ≡ meaning_pairs (all_of body.now) (names_of body.now (map (λ n. placed n.now) locals.now)) (pairs_of (map entry_of entries.now))) }
+    ensures { IfOk result (λ out. terms.pairs_of (map pair out) ≡ meaning_pairs (all_of body.now) (names_of body.now locals.now) (pairs_of (map entry_of entries.now))) }
 {
     let mut out = Items::new(alloc);
     for entry in entries {
-        let (key, value) = two_of(alloc, body, locals, &entry.key, &entry.value)?;
-        out.push(PairExpr { key, value })?;
+        let entry = pair_of(alloc, body, locals, entry)?;
+        out.push(entry)?;
     }
     Ok(out)
+}
+
+/// A property.
+#[cycle(meaning)]
+fn prop_of<'a>(alloc: Global, body: &Body<'_>, locals: &[&'a Name], property: &'a Property) -> Result<PropExpr, Memory>
+    requires { IsKnown body.now }
+    ensures name { IfOk result (λ p. (prop p).0 ≡ (property_of property.now).0.bytes) }
+    ensures value { IfOk result (λ p. (prop p).1 ≡ meaning (all_of body.now) (names_of body.now locals.now) (property_of property.now).1) }
+{
+    let value = expr_of(alloc, body, locals, &property.value)?;
+    let name = property.name.bytes.clone()?;
+    Ok(PropExpr { name, value })
+}
+
+/// An entry.
+#[cycle(meaning)]
+fn pair_of<'a>(alloc: Global, body: &Body<'_>, locals: &[&'a Name], entry: &'a Entry) -> Result<PairExpr, Memory>
+    requires { IsKnown body.now }
+    ensures key { IfOk result (λ p. (pair p).0 ≡ meaning (all_of body.now) (names_of body.now locals.now) (entry_of entry.now).0) }
+    ensures value { IfOk result (λ p. (pair p).1 ≡ meaning (all_of body.now) (names_of body.now locals.now) (entry_of entry.now).1) }
+{
+    let (key, value) = two_of(alloc, body, locals, &entry.key, &entry.value)?;
+    Ok(PairExpr { key, value })
 }

@@ -24,7 +24,8 @@ fn place(fault: &NameFault) -> u32
 /// The first fault of two parts: of the first faults of each the one that stands first, and of two at one place that
 /// of the first part.
 pub fn first_of(first: Option<NameFault>, other: Option<NameFault>) -> Option<NameFault>
-    ensures { (part rest : List faults.NameFault) → IsFirst first part → IsFirst other rest → IsFirst result (part ++ rest) }
+    ensures is { option_map fault_of result ≡ faults.first_of (option_map fault_of first) (option_map fault_of other) }
+    ensures parts { (part rest : List faults.NameFault) → IsFirst first part → IsFirst other rest → IsFirst result (part ++ rest) }
 {
     earlier(first, other)
 }

@@ -131,6 +131,14 @@ fn in_body(alloc: Global, declared: &[Declaration], tables: &Tables, params: &[N
 fn references(alloc: Global, names: &[Name]) -> Result<Vec<&Name>, Memory>
     ensures { IfOk result (λ out. map (λ n. placed n.now) out.items ≡ map placed names.now) }
 {
+    let out = each(alloc, names)?;
+    Ok(out)
+}
+
+/// Each name behind a reference.
+fn each(alloc: Global, names: &[Name]) -> Result<Vec<&Name>, Memory>
+    ensures { IfOk result (λ out. map (λ n. n.now) out.items ≡ names.now) }
+{
     let mut out = Vec::with_capacity(alloc, names.len())?;
     for name in names {
         out.push(name)?;

@@ -1,15 +1,16 @@
-ghost use Rattle.std.specs.Prelude.{◌≤◌, IfOk, IfErr, length, map};
+ghost use Rattle.std.specs.Prelude.{◌≤◌, ℕ, List, IfOk, IfErr, length, map};
 ghost use Rattle.std.specs.Str.{IsUtf8};
 ghost use Rattle.flight_syntax.specs.Derives.{said};
 ghost use Rattle.flight_grammar.specs.Outcome as outcome;
-ghost use Rattle.flight_grammar.specs.Outcome.{ComesTo};
+ghost use Rattle.flight_grammar.specs.Outcome.{ComesTo, IsSpelled};
+ghost use Rattle.flight_tree.specs.Declarations.{declaration_of};
 ghost use Rattle.flight_parse.specs.Reports.{IsParseFault};
 
 use crate::fault::ParseFault;
 use crate::program::{first_fault, has_app, program};
 use crate::tables::tables_of;
 use flight_syntax::Program;
-use flight_tree::declarations;
+use flight_tree::{Declaration, declarations};
 use std::alloc::Global;
 
 /// The program that a text of at most 1,048,576 bytes is, or its first fault: of its tokens; else of its form; else of
@@ -21,12 +22,22 @@ pub fn parse(alloc: Global, bytes: &[u8]) -> Result<Program, ParseFault>
     ensures fault { IfErr result (IsParseFault bytes.now) }
 {
     let declared = declarations(alloc, bytes)?;
-    let tables = tables_of(alloc, declared.as_slice())?;
-    if let Some(fault) = first_fault(alloc, declared.as_slice(), &tables)? {
+    resolved(alloc, declared.as_slice())
+}
+
+/// The program that declarations are, or the first fault of their names.
+fn resolved(alloc: Global, declared: &[Declaration]) -> Result<Program, ParseFault>
+    ensures ok { (text : List ℕ) → IsSpelled text (map declaration_of declared.now) → IfOk result (λ program. ComesTo text (outcome.program (map said program.declared))) }
+    ensures fault { (text : List ℕ) → IsSpelled text (map declaration_of declared.now) → IfErr result (IsParseFault text) }
+{
+    let tables = tables_of(alloc, declared)?;
+    let found = first_fault(alloc, declared, &tables)?;
+    if let Some(fault) = found {
         return Err(ParseFault::from(fault));
     }
-    if !has_app(declared.as_slice()) {
+    if !has_app(declared) {
         return Err(ParseFault::NoApp);
     }
-    Ok(program(alloc, declared.as_slice(), &tables)?)
+    let program = program(alloc, declared, &tables)?;
+    Ok(program)
 }

@@ -26,25 +26,31 @@ abbrev pub decreases-in_bound : goal.decreases-in_bound
 decreases-in_bound l = 4 * most size-Tree l.bound.now + 2
 
 abbrev pub decreases-in_object : goal.decreases-in_object
-decreases-in_object l = 4 * most size-Property l.properties.now + 2
+decreases-in_object l = 4 * most size-Property l.properties.now + 3
 
 abbrev pub decreases-in_element : goal.decreases-in_element
-decreases-in_element l = 4 * max (most size-Property l.attributes.now) (most size-Tree l.children.now) + 2
+decreases-in_element l = 4 * max (most size-Property l.attributes.now) (most size-Tree l.children.now) + 3
 
 abbrev pub decreases-in_each : goal.decreases-in_each
 decreases-in_each l = 4 * most size-Tree l.items.now + 1
 
 abbrev pub decreases-in_properties : goal.decreases-in_properties
-decreases-in_properties l = 4 * most size-Property l.properties.now + 1
+decreases-in_properties l = 4 * most size-Property l.properties.now + 2
+
+abbrev pub decreases-in_property : goal.decreases-in_property
+decreases-in_property l = 4 * size-Property l.property.now + 1
 
 abbrev pub decreases-in_entries : goal.decreases-in_entries
-decreases-in_entries l = 4 * most size-Entry l.entries.now + 2
+decreases-in_entries l = 4 * most size-Entry l.entries.now + 3
+
+abbrev pub decreases-in_entry : goal.decreases-in_entry
+decreases-in_entry l = 4 * size-Entry l.entry.now + 2
 
 abbrev pub invariant-in_each-loop-item : goal.invariant-in_each-loop-item
-invariant-in_each-loop-item l = going l.first (faults.faults_each (all_of l.body) (scope_of l.body (map (λ n. placed n.now) l.locals)) (trees_of (map tree_of (drop l.item-index l.items)))) ≡ faults.first_fault (faults.faults_each (all_of l.body) (scope_of l.body (map (λ n. placed n.now) l.locals)) (trees_of (map tree_of l.items)))
+invariant-in_each-loop-item l = going l.first (faults.faults_each (all_of l.body) (scope_of l.body l.locals) (trees_of (map tree_of (drop l.item-index l.items)))) ≡ faults.first_fault (faults.faults_each (all_of l.body) (scope_of l.body l.locals) (trees_of (map tree_of l.items)))
 
 abbrev pub invariant-in_properties-loop-property : goal.invariant-in_properties-loop-property
-invariant-in_properties-loop-property l = going l.first (faults.faults_props (all_of l.body) (scope_of l.body (map (λ n. placed n.now) l.locals)) (props_of (map property_of (drop l.property-index l.properties)))) ≡ faults.first_fault (faults.faults_props (all_of l.body) (scope_of l.body (map (λ n. placed n.now) l.locals)) (props_of (map property_of l.properties)))
+invariant-in_properties-loop-property l = going l.first (faults.faults_props (all_of l.body) (scope_of l.body l.locals) (props_of (map property_of (drop l.property-index l.properties)))) ≡ faults.first_fault (faults.faults_props (all_of l.body) (scope_of l.body l.locals) (props_of (map property_of l.properties)))
 
 abbrev pub invariant-in_entries-loop-entry : goal.invariant-in_entries-loop-entry
-invariant-in_entries-loop-entry l = going l.first (faults.faults_pairs (all_of l.body) (scope_of l.body (map (λ n. placed n.now) l.locals)) (pairs_of (map entry_of (drop l.entry-index l.entries)))) ≡ faults.first_fault (faults.faults_pairs (all_of l.body) (scope_of l.body (map (λ n. placed n.now) l.locals)) (pairs_of (map entry_of l.entries)))
+invariant-in_entries-loop-entry l = going l.first (faults.faults_pairs (all_of l.body) (scope_of l.body l.locals) (pairs_of (map entry_of (drop l.entry-index l.entries)))) ≡ faults.first_fault (faults.faults_pairs (all_of l.body) (scope_of l.body l.locals) (pairs_of (map entry_of l.entries)))

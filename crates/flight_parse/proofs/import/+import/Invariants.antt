@@ -11,13 +11,16 @@ use Rattle.flight_tree.specs.Values.{json_of, member_of}
 use Rattle.flight_parse.proofs.import.+import.Given as goal
 
 abbrev pub decreases-value : goal.decreases-value
-decreases-value l = 2 * size-Json l.json.now
+decreases-value l = 3 * size-Json l.read.now
+
+abbrev pub decreases-value_in : goal.decreases-value_in
+decreases-value_in l = 3 * size-Member l.member.now + 1
 
 abbrev pub decreases-values : goal.decreases-values
-decreases-values l = 2 * most size-Json l.items.now + 1
+decreases-values l = 3 * most size-Json l.items.now + 1
 
 abbrev pub decreases-object : goal.decreases-object
-decreases-object l = 2 * most size-Member l.members.now + 1
+decreases-object l = 3 * most size-Member l.members.now + 2
 
 abbrev pub invariant-values-loop-item : goal.invariant-values-loop-item
 invariant-values-loop-item l = record {

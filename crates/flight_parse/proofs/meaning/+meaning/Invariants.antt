@@ -24,16 +24,22 @@ abbrev pub decreases-exprs_of : goal.decreases-exprs_of
 decreases-exprs_of l = 4 * most size-Tree l.items.now + 1
 
 abbrev pub decreases-props_in : goal.decreases-props_in
-decreases-props_in l = 4 * most size-Property l.properties.now + 1
+decreases-props_in l = 4 * most size-Property l.properties.now + 2
+
+abbrev pub decreases-prop_of : goal.decreases-prop_of
+decreases-prop_of l = 4 * size-Property l.property.now + 1
 
 abbrev pub decreases-pairs_in : goal.decreases-pairs_in
-decreases-pairs_in l = 4 * most size-Entry l.entries.now + 2
+decreases-pairs_in l = 4 * most size-Entry l.entries.now + 3
+
+abbrev pub decreases-pair_of : goal.decreases-pair_of
+decreases-pair_of l = 4 * size-Entry l.entry.now + 2
 
 abbrev pub invariant-exprs_of-loop-item : goal.invariant-exprs_of-loop-item
-invariant-exprs_of-loop-item l = terms.terms_of (map term l.out) ≡ meanings (all_of l.body) (names_of l.body (map (λ n. placed n.now) l.locals)) (trees_of (map tree_of (take l.item-index l.items)))
+invariant-exprs_of-loop-item l = terms.terms_of (map term l.out) ≡ meanings (all_of l.body) (names_of l.body l.locals) (trees_of (map tree_of (take l.item-index l.items)))
 
 abbrev pub invariant-props_in-loop-property : goal.invariant-props_in-loop-property
-invariant-props_in-loop-property l = terms.props_of (map prop l.out) ≡ meaning_props (all_of l.body) (names_of l.body (map (λ n. placed n.now) l.locals)) (props_of (map property_of (take l.property-index l.properties)))
+invariant-props_in-loop-property l = terms.props_of (map prop l.out) ≡ meaning_props (all_of l.body) (names_of l.body l.locals) (props_of (map property_of (take l.property-index l.properties)))
 
 abbrev pub invariant-pairs_in-loop-entry : goal.invariant-pairs_in-loop-entry
-invariant-pairs_in-loop-entry l = terms.pairs_of (map pair l.out) ≡ meaning_pairs (all_of l.body) (names_of l.body (map (λ n. placed n.now) l.locals)) (pairs_of (map entry_of (take l.entry-index l.entries)))
+invariant-pairs_in-loop-entry l = terms.pairs_of (map pair l.out) ≡ meaning_pairs (all_of l.body) (names_of l.body l.locals) (pairs_of (map entry_of (take l.entry-index l.entries)))
