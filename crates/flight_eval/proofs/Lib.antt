@@ -1,4 +1,3 @@
-pub mod Letters
 pub mod Own
 pub mod Searched
 pub mod StableOrder
