@@ -1,3 +1,4 @@
+pub mod Letters
 pub mod Own
 pub mod Searched
 pub mod StableOrder
