@@ -141,7 +141,6 @@ fn streams(alloc: Global) -> Result<Vec<Flowing>, Memory>
 }
 
 /// The script of these sources and streams.
-#[tactic(auto, using(crate::proofs::Letters::letters_ascend))]
 fn script(alloc: Global) -> Result<Script, Memory>
     ensures { IfOk result (λ script. HasAscendingNames script) }
 {
