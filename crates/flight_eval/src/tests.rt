@@ -74,17 +74,43 @@ fn alone(alloc: Global, name: &str, atom: Atom) -> Result<Data, Memory>
     )
 }
 
+/// A source that fails.
+fn failing(alloc: Global, name: &str, digest: &str) -> Result<Data, Memory>
+    ensures { IfOk result (λ d. d.name ≡ name.now) }
+{
+    data(alloc, name, Outcome::Reject(text(alloc, digest)?))
+}
+
+/// A source of an array of 1 and `x`.
+fn array(alloc: Global, name: &str) -> Result<Data, Memory>
+    ensures { IfOk result (λ d. d.name ≡ name.now) }
+{
+    let letter = Atom::Text(text(alloc, "x")?);
+    data(
+        alloc,
+        name,
+        Outcome::Value(two(alloc, Atom::Whole(1), letter)?),
+    )
+}
+
+/// A source of an object whose `k` is 1.
+fn keyed(alloc: Global, name: &str) -> Result<Data, Memory>
+    ensures { IfOk result (λ d. d.name ≡ name.now) }
+{
+    data(alloc, name, Outcome::Value(object(alloc, Atom::Whole(1))?))
+}
+
 /// `a` is 7, `b` fails with `no`, `c` is an array, `d` an object, and `e` is 9.
 fn sources(alloc: Global) -> Result<Vec<Data>, Memory>
     ensures { IfOk result (λ all. map (λ d. d.name) all.items ≡ codes "a" ∷ codes "b" ∷ codes "c" ∷ codes "d" ∷ codes "e" ∷ []) }
 {
-    let seven = alone(alloc, "a", Atom::Whole(7))?;
-    let failed = data(alloc, "b", Outcome::Reject(text(alloc, "no")?))?;
-    let array = two(alloc, Atom::Whole(1), Atom::Text(text(alloc, "x")?))?;
-    let array = data(alloc, "c", Outcome::Value(array))?;
-    let object = data(alloc, "d", Outcome::Value(object(alloc, Atom::Whole(1))?))?;
-    let nine = alone(alloc, "e", Atom::Whole(9))?;
-    Ok(vec![in alloc; seven, failed, array, object, nine]?)
+    let mut all = Vec::new(alloc);
+    all.push(alone(alloc, "a", Atom::Whole(7))?)?;
+    all.push(failing(alloc, "b", "no")?)?;
+    all.push(array(alloc, "c")?)?;
+    all.push(keyed(alloc, "d")?)?;
+    all.push(alone(alloc, "e", Atom::Whole(9))?)?;
+    Ok(all)
 }
 
 fn flowing(
@@ -115,7 +141,6 @@ fn streams(alloc: Global) -> Result<Vec<Flowing>, Memory>
 }
 
 /// The script of these sources and streams.
-#[tactic(auto, using(crate::proofs::Letters::letters_ascend))]
 fn script(alloc: Global) -> Result<Script, Memory>
     ensures { IfOk result (λ script. HasAscendingNames script) }
 {
@@ -217,12 +242,26 @@ fn tried_at_top(alloc: Global, over: &Ground, what: What, fuel: u32) -> Result<S
     tried(alloc, over, top(alloc)?, what, fuel)
 }
 
-/// The values, the nodes and the costs of `App` with these bodies.
-fn gives(rt: &impl Abort, alloc: Global, cases: &[(&str, &str)]) -> Result<(), Fail> {
-    for (body, expected) in cases {
-        let over = over(alloc, body, Root::App)?;
-        let found = tried_at_top(alloc, &over, What::Root, 1000)?;
-        assert!(rt; found.as_str() == *expected, "{body}: {found}");
+/// Asks what `App` with a body comes to: its nodes, its end and its cost.
+fn gives_one(
+    rt: &impl Abort,
+    alloc: Global,
+    fuel: u32,
+    body: &str,
+    expected: &str,
+) -> Result<(), Fail> {
+    let over = over(alloc, body, Root::App)?;
+    let found = tried_at_top(alloc, &over, What::Root, fuel)?;
+    assert!(rt; found.as_str() == expected, "{body}: {found}");
+    Ok(())
+}
+
+/// Asks the same of each line: a body, `; ` and what it comes to.
+fn gives(rt: &impl Abort, alloc: Global, fuel: u32, cases: &str) -> Result<(), Fail> {
+    for case in cases.split('\n') {
+        if let Some((body, expected)) = case.split_once(';') {
+            gives_one(rt, alloc, fuel, body, expected.trim_start())?;
+        }
     }
     Ok(())
 }
@@ -232,53 +271,42 @@ fn operates_within_limits(rt: HostRuntime) -> Result<(), Fail> {
     gives(
         &rt,
         rt.alloc(),
-        &[
-            ("9007199254740990 1 +", "= 9007199254740991, 4"),
-            ("9007199254740991 1 +", "! range, 3"),
-            ("-9007199254740990 1 -", "= -9007199254740991, 4"),
-            ("-9007199254740991 1 -", "! range, 3"),
-            ("94906265 94906265 *", "= 9007199136250225, 4"),
-            ("94906266 94906266 *", "! range, 3"),
-            ("4611686018427387904 2 *", "! range, 3"),
-            (
-                "170141183460469231731687303715884105726n 1n +",
-                "= 170141183460469231731687303715884105727n, 4",
-            ),
-            (
-                "170141183460469231731687303715884105727n 1n +",
-                "! range, 3",
-            ),
-            (
-                "-170141183460469231731687303715884105727n 1n -",
-                "= -170141183460469231731687303715884105728n, 4",
-            ),
-            (
-                "-170141183460469231731687303715884105728n 1n -",
-                "! range, 3",
-            ),
-            ("1 1n +", "! type, 3"),
-            ("'ab 'c +", "= 'abc, 10"),
-            ("'n -5 +", "= 'n-5, 10"),
-            ("5 'n +", "! type, 3"),
-            ("'n 5n +", "! type, 3"),
-            ("1 1 ==", "= true, 4"),
-            ("1 1n ==", "= false, 4"),
-            ("null undefined ==", "= false, 4"),
-            ("'a 'a ==", "= true, 4"),
-            ("[0 1 ==", "Array() ! type, 3"),
-            ("NaN NaN ==", "! type, 3"),
-            ("-0 1 <", "! type, 3"),
-            ("1 2 <", "= true, 4"),
-            ("2n 1n <", "= false, 4"),
-            ("'Z 'a <", "= true, 4"),
-            ("'b 'ab <", "= false, 4"),
-            ("true false <", "! type, 3"),
-            ("true 1 &&", "= 1, 4"),
-            ("false 1 &&", "= false, 3"),
-            ("true 1 ||", "= true, 3"),
-            ("false 1 ||", "= 1, 4"),
-            ("1 true &&", "! type, 2"),
-        ],
+        1000,
+        r#"
+9007199254740990 1 +; = 9007199254740991, 4
+9007199254740991 1 +; ! range, 3
+-9007199254740990 1 -; = -9007199254740991, 4
+-9007199254740991 1 -; ! range, 3
+94906265 94906265 *; = 9007199136250225, 4
+94906266 94906266 *; ! range, 3
+4611686018427387904 2 *; ! range, 3
+170141183460469231731687303715884105726n 1n +; = 170141183460469231731687303715884105727n, 4
+170141183460469231731687303715884105727n 1n +; ! range, 3
+-170141183460469231731687303715884105727n 1n -; = -170141183460469231731687303715884105728n, 4
+-170141183460469231731687303715884105728n 1n -; ! range, 3
+1 1n +; ! type, 3
+'ab 'c +; = 'abc, 10
+'n -5 +; = 'n-5, 10
+5 'n +; ! type, 3
+'n 5n +; ! type, 3
+1 1 ==; = true, 4
+1 1n ==; = false, 4
+null undefined ==; = false, 4
+'a 'a ==; = true, 4
+[0 1 ==; Array() ! type, 3
+NaN NaN ==; ! type, 3
+-0 1 <; ! type, 3
+1 2 <; = true, 4
+2n 1n <; = false, 4
+'Z 'a <; = true, 4
+'b 'ab <; = false, 4
+true false <; ! type, 3
+true 1 &&; = 1, 4
+false 1 &&; = false, 3
+true 1 ||; = true, 3
+false 1 ||; = 1, 4
+1 true &&; ! type, 2
+"#,
     )
 }
 
@@ -287,31 +315,29 @@ fn evaluates_in_order(rt: HostRuntime) -> Result<(), Fail> {
     gives(
         &rt,
         rt.alloc(),
-        &[
-            ("[0 @e +", "waits 4"),
-            ("[0 @b +", "Array() ! no, 3"),
-            ("1 @e &&", "! type, 2"),
-            ("[0 @e at", "waits 4"),
-            ("null @e <div,key,n", "! type, 2"),
-            ("null @e <div,key/1", "! type, 2"),
-            ("1 .a .b", "! type, 3"),
-            ("1 @e 2 if", "! type, 2"),
-            ("1 @e for", "! type, 2"),
-            ("@e throw", "waits 4"),
-            ("@b @e [2", "! no, 2"),
-            ("true 1 2 if", "= 1, 4"),
-            ("false @e 2 if", "= 2, 4"),
-            ("'oops throw", "! oops, 2"),
-            ("7 throw", "! type, 2"),
-            ("5 $0 $0 + let", "= 10, 6"),
-            ("5 paren", "= 5, 2"),
-            ("1 2 [2 $0 1 + for", "Array(1 2) Array(2 3) = #0.1, 15"),
-            (
-                "3 1 2 [2 $1 $0 + for let",
-                "Array(1 2) Array(4 5) = #0.1, 17",
-            ),
-            ("1 [1 5 $1 let for $0 let", "Array(1) Array(5) = #0.1, 11"),
-        ],
+        1000,
+        r#"
+[0 @e +; waits 4
+[0 @b +; Array() ! no, 3
+1 @e &&; ! type, 2
+[0 @e at; waits 4
+null @e <div,key,n; ! type, 2
+null @e <div,key/1; ! type, 2
+1 .a .b; ! type, 3
+1 @e 2 if; ! type, 2
+1 @e for; ! type, 2
+@e throw; waits 4
+@b @e [2; ! no, 2
+true 1 2 if; = 1, 4
+false @e 2 if; = 2, 4
+'oops throw; ! oops, 2
+7 throw; ! type, 2
+5 $0 $0 + let; = 10, 6
+5 paren; = 5, 2
+1 2 [2 $0 1 + for; Array(1 2) Array(2 3) = #0.1, 15
+3 1 2 [2 $1 $0 + for let; Array(1 2) Array(4 5) = #0.1, 17
+1 [1 5 $1 let for $0 let; Array(1) Array(5) = #0.1, 11
+"#,
     )
 }
 
@@ -320,74 +346,58 @@ fn makes_nodes(rt: HostRuntime) -> Result<(), Fail> {
     gives(
         &rt,
         rt.alloc(),
-        &[
-            ("1 2 [2 1 at", "Array(1 2) = 2, 8"),
-            ("1 [1 1 at", "Array(1) ! missing, 5"),
-            ("1 [1 -1 at", "Array(1) ! missing, 5"),
-            ("1 [1 'a at", "Array(1) ! type, 5"),
-            ("'abc [1", "Array('abc) = #0.0, 7"),
-            ("1 2 {b,a", "Object a b(2 1) = #0.0, 8"),
-            ("1 {a .a", "Object a(1) = 1, 6"),
-            ("1 {a .b", "Object a(1) = undefined, 6"),
-            ("[0 .a", "Array() ! type, 2"),
-            ("1 'x ?1", "Map(1 'x) = #0.0, 7"),
-            ("1 2 #2", "Set(1 2) = #0.0, 6"),
-            ("@a", "= 7, 2"),
-            ("@b", "! no, 1"),
-            ("@c", "= s2.0, 2"),
-            ("@c 1 at", "= 'x, 5"),
-            ("@c 2 at", "! missing, 3"),
-            ("@d .k", "= 1, 3"),
-            ("@d .l", "= undefined, 3"),
-            ("@d 0 at", "! type, 3"),
-            ("~e", "= p4, 2"),
-            ("%g", "= f1, 2"),
-            ("&2", "= &{\"id\":\"b\"}, 2"),
-            ("!3", "= a3, 2"),
-            ("1 !3,1", "Array(1) Promise(#0.0) Bound 3(#0.1) = #0.2, 6"),
-            ("<$0", "Object() Server 0(null #0.0) = #0.1, 5"),
-            ("<div", "Object() Element('div null #0.0) = #0.1, 8"),
-            (
-                "<@2",
-                "Object() Element(&{\"id\":\"b\"} null #0.0) = #0.1, 5",
-            ),
-            (
-                "<*",
-                "Object() Element(@react.suspense null #0.0) = #0.1, 5",
-            ),
-            ("5 <div,key", "Object() Element('div '5 #0.0) = #0.1, 10"),
-            (
-                "'k 1 'hi <div,key,n/1",
-                "Object children n('hi 1) Element('div 'k #0.0) = #0.1, 25",
-            ),
-            (
-                "1 2 <div/2",
-                "Array(1 2) Object children(#0.0) Element('div null #0.1) = #0.2, 21",
-            ),
-        ],
+        1000,
+        r#"
+1 2 [2 1 at; Array(1 2) = 2, 8
+1 [1 1 at; Array(1) ! missing, 5
+1 [1 -1 at; Array(1) ! missing, 5
+1 [1 'a at; Array(1) ! type, 5
+'abc [1; Array('abc) = #0.0, 7
+1 2 {b,a; Object a b(2 1) = #0.0, 8
+1 {a .a; Object a(1) = 1, 6
+1 {a .b; Object a(1) = undefined, 6
+[0 .a; Array() ! type, 2
+1 'x ?1; Map(1 'x) = #0.0, 7
+1 2 #2; Set(1 2) = #0.0, 6
+@a; = 7, 2
+@b; ! no, 1
+@c; = s2.0, 2
+@c 1 at; = 'x, 5
+@c 2 at; ! missing, 3
+@d .k; = 1, 3
+@d .l; = undefined, 3
+@d 0 at; ! type, 3
+~e; = p4, 2
+%g; = f1, 2
+&2; = &{"id":"b"}, 2
+!3; = a3, 2
+1 !3,1; Array(1) Promise(#0.0) Bound 3(#0.1) = #0.2, 6
+<$0; Object() Server 0(null #0.0) = #0.1, 5
+<div; Object() Element('div null #0.0) = #0.1, 8
+<@2; Object() Element(&{"id":"b"} null #0.0) = #0.1, 5
+<*; Object() Element(@react.suspense null #0.0) = #0.1, 5
+5 <div,key; Object() Element('div '5 #0.0) = #0.1, 10
+'k 1 'hi <div,key,n/1; Object children n('hi 1) Element('div 'k #0.0) = #0.1, 25
+1 2 <div/2; Array(1 2) Object children(#0.0) Element('div null #0.1) = #0.2, 21
+"#,
     )
 }
 
 #[test]
 fn stops_past_the_fuel(rt: HostRuntime) -> Result<(), Fail> {
-    for (body, fuel, expected) in [
-        ("1 2 +", 4, "= 3, 4"),
-        ("1 2 +", 3, "over fuel"),
-        ("@e", 1, "waits 4"),
-        ("@e", 0, "over fuel"),
-        ("'oops throw", 2, "! oops, 2"),
-        ("'oops throw", 1, "over fuel"),
-        ("'ab [1", 5, "over fuel"),
-        ("'ab [1", 6, "Array('ab) = #0.0, 6"),
-        ("1 {key", 6, "over fuel"),
-        ("'ab", 3, "over fuel"),
-        ("'ab", 4, "= 'ab, 4"),
-    ] {
-        let over = over(rt.alloc(), body, Root::App)?;
-        let found = tried_at_top(rt.alloc(), &over, What::Root, fuel)?;
-        assert!(rt; found.as_str() == expected, "{body} at {fuel}: {found}");
-    }
-    Ok(())
+    let alloc = rt.alloc();
+    gives(&rt, alloc, 0, "@e; over fuel")?;
+    gives(&rt, alloc, 1, "@e; waits 4\n'oops throw; over fuel")?;
+    gives(&rt, alloc, 2, "'oops throw; ! oops, 2")?;
+    gives(&rt, alloc, 3, "1 2 +; over fuel\n'ab; over fuel")?;
+    gives(&rt, alloc, 4, "1 2 +; = 3, 4\n'ab; = 'ab, 4")?;
+    gives(&rt, alloc, 5, "'ab [1; over fuel")?;
+    gives(
+        &rt,
+        alloc,
+        6,
+        "'ab [1; Array('ab) = #0.0, 6\n1 {key; over fuel",
+    )
 }
 
 /// The tables of the body of `Item` with `a` and without `b`, and its name.
@@ -439,49 +449,88 @@ fn called(alloc: Global) -> Result<Ground, Memory>
     over(alloc, "1", call(alloc)?)
 }
 
-#[test]
-fn attempts_bodies(rt: HostRuntime) -> Result<(), Fail> {
-    let alloc = rt.alloc();
-    let over = called(alloc)?;
-    told(&rt, tried_at_top(alloc, &over, What::Root, 100), "= 3, 4")?;
+/// Asks what the bodies of the root and of elements come to.
+fn bodies(rt: &impl Abort, alloc: Global, over: &Ground) -> Result<(), Fail>
+    requires names { HasAscendingNames over.now.script }
+{
+    told(rt, tried_at_top(alloc, over, What::Root, 100), "= 3, 4")?;
     told(
-        &rt,
-        tried_element(alloc, &over, 0, 1),
+        rt,
+        tried_element(alloc, over, 0, 1),
         "Array(5 undefined) = #1.0, 6",
     )?;
-    told(&rt, tried_element(alloc, &over, 0, 0), "! type, 0")
+    told(rt, tried_element(alloc, over, 0, 0), "! type, 0")
+}
+
+#[test]
+fn attempts_bodies(rt: HostRuntime) -> Result<(), Fail> {
+    bodies(&rt, rt.alloc(), &called(rt.alloc())?)
+}
+
+/// Asks what promises, arguments and streams come to.
+fn others(rt: &impl Abort, alloc: Global, over: &Ground) -> Result<(), Fail>
+    requires names { HasAscendingNames over.now.script }
+{
+    let slot = Slot::Node(0);
+    told(
+        rt,
+        tried_at_top(alloc, over, What::Known { slot }, 0),
+        "= s5.0, 0",
+    )?;
+    told(
+        rt,
+        tried_at_top(alloc, over, What::Promise { source: 0 }, 0),
+        "= 7, 0",
+    )?;
+    told(
+        rt,
+        tried_at_top(alloc, over, What::Promise { source: 1 }, 0),
+        "! no, 0",
+    )?;
+    told(
+        rt,
+        tried_at_top(alloc, over, What::Promise { source: 4 }, 0),
+        "waits 4",
+    )?;
+    told(
+        rt,
+        tried_at_top(
+            alloc,
+            over,
+            What::Item {
+                stream: 0,
+                index: 0,
+            },
+            0,
+        ),
+        "= 7, 0",
+    )?;
+    told(
+        rt,
+        tried_at_top(
+            alloc,
+            over,
+            What::Item {
+                stream: 0,
+                index: 1,
+            },
+            0,
+        ),
+        "! no, 0",
+    )?;
+    told(
+        rt,
+        tried_at_top(alloc, over, What::Last { stream: 0 }, 0),
+        "= s2.0, 0",
+    )?;
+    told(
+        rt,
+        tried_at_top(alloc, over, What::Last { stream: 1 }, 0),
+        "= undefined, 0",
+    )
 }
 
 #[test]
 fn attempts_what_is_no_body(rt: HostRuntime) -> Result<(), Fail> {
-    let alloc = rt.alloc();
-    let over = called(alloc)?;
-    let slot = Slot::Node(0);
-    told(
-        &rt,
-        tried_at_top(alloc, &over, What::Known { slot }, 0),
-        "= s5.0, 0",
-    )?;
-    for (source, expected) in [(0, "= 7, 0"), (1, "! no, 0"), (4, "waits 4")] {
-        told(
-            &rt,
-            tried_at_top(alloc, &over, What::Promise { source }, 0),
-            expected,
-        )?;
-    }
-    for (index, expected) in [(0, "= 7, 0"), (1, "! no, 0")] {
-        told(
-            &rt,
-            tried_at_top(alloc, &over, What::Item { stream: 0, index }, 0),
-            expected,
-        )?;
-    }
-    for (stream, expected) in [(0, "= s2.0, 0"), (1, "= undefined, 0")] {
-        told(
-            &rt,
-            tried_at_top(alloc, &over, What::Last { stream }, 0),
-            expected,
-        )?;
-    }
-    Ok(())
+    others(&rt, rt.alloc(), &called(rt.alloc())?)
 }
