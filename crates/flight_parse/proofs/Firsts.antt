@@ -102,4 +102,4 @@ pub repeated_steps : {A : Type 0} (P : A → Placed) (xs : List A) (i : ℕ) (x 
 repeated_steps P xs i x l is found new fault total inv f e =
     ap (λ b. going new (faults.repeated b (map P (drop (i + 1) xs)))) (one_before P xs i x l is)
     ∙ goes_on found new fault (if faults.is_named (P x).bytes (before P xs i) then faults.twice (P x) ∷ [] else []) (faults.repeated (P x ∷ before P xs i) (map P (drop (i + 1) xs))) total
-      (ap (λ z. going found (faults.repeated (before P xs i) (map P z))) (sym (more xs i x l is)) ∙ inv) f e
+    (ap (λ z. going found (faults.repeated (before P xs i) (map P z))) (sym (more xs i x l is)) ∙ inv) f e

@@ -85,4 +85,4 @@ pub kept_steps : {A B X Y : Type 0} (R : X → Y → Type 0) (f : A → X) (g : 
     → AllZip R (map f (take i xs)) (map g old) → R (f x) (g y) → new ≡ old ++ y ∷ [] → AllZip R (map f (take (i + 1) xs)) (map g new)
 kept_steps R f g xs i x l is old new y z r e =
     subst (λ us. AllZip R us (map g new)) (sym (ap (map f) (taken xs i x l is) ∙ map_last f (take i xs) x))
-      (subst (λ us. AllZip R (map f (take i xs) ++ f x ∷ []) us) (sym (ap (map g) e ∙ map_last g old y)) (zip_last R (map f (take i xs)) (map g old) (f x) (g y) z r))
+    (subst (λ us. AllZip R (map f (take i xs) ++ f x ∷ []) us) (sym (ap (map g) e ∙ map_last g old y)) (zip_last R (map f (take i xs)) (map g old) (f x) (g y) z r))

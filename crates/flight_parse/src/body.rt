@@ -88,11 +88,19 @@ fn local(locals: &[&Name], name: &Text) -> Option<usize>
 fn later(found: Option<usize>, at: usize, local: &Name, name: &Text) -> Option<usize>
     ensures { (locals : List (List ℕ)) → found ≡ variable_number locals name.now → at ≡ length locals → result ≡ variable_number (locals ++ local.now.bytes ∷ []) name.now }
 {
-    if local.bytes == *name { Some(at) } else { found }
+    if local.bytes == *name {
+        Some(at)
+    } else {
+        found
+    }
 }
 
 /// One local more, inside the others.
-pub fn with_local<'a>(alloc: Global, locals: &[&'a Name], name: &'a Name) -> Result<Vec<&'a Name>, Memory>
+pub fn with_local<'a>(
+    alloc: Global,
+    locals: &[&'a Name],
+    name: &'a Name,
+) -> Result<Vec<&'a Name>, Memory>
     ensures bytes { IfOk result (λ more. map (λ n. n.now.bytes) more.items ≡ map (λ n. n.now.bytes) locals.now ++ name.now.bytes ∷ []) }
     ensures placed { IfOk result (λ more. map (λ n. placed n.now) more.items ≡ map (λ n. placed n.now) locals.now ++ placed name.now ∷ []) }
 {

@@ -143,7 +143,12 @@ pub fn action_with(body: &Body<'_>, name: &Name, bound: Items<Expr>) -> Result<E
 }
 
 /// An element.
-pub fn element(body: &Body<'_>, tag: &Name, attrs: Items<PropExpr>, children: Items<Expr>) -> Result<Expr, Memory>
+pub fn element(
+    body: &Body<'_>,
+    tag: &Name,
+    attrs: Items<PropExpr>,
+    children: Items<Expr>,
+) -> Result<Expr, Memory>
     requires { IsKnown body.now }
     ensures { IfOk result (λ e. term e ≡ terms.element (given_tag (tag_of (all_of body.now) tag.now.bytes)) (terms.props_of (map prop attrs)) (terms.terms_of (map term children))) }
 {

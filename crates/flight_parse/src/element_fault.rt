@@ -17,7 +17,14 @@ use flight_value::Memory;
 use std::alloc::Global;
 
 /// The first fault of an element: of its own names, or that of its parts, which is given.
-pub fn own_fault(alloc: Global, body: &Body<'_>, tag: &Name, attributes: &[Property], children: &[Tree], parts: Option<NameFault>) -> Result<Option<NameFault>, Memory>
+pub fn own_fault(
+    alloc: Global,
+    body: &Body<'_>,
+    tag: &Name,
+    attributes: &[Property],
+    children: &[Tree],
+    parts: Option<NameFault>,
+) -> Result<Option<NameFault>, Memory>
     requires { IsKnown body.now }
     ensures { IfOk result (λ fault. (rest : List faults.NameFault) → IsFirst parts rest → IsFirst fault
         (faults.unless_known (faults.is_tag (all_of body.now) tag.now.bytes) (placed tag.now)
@@ -30,7 +37,10 @@ pub fn own_fault(alloc: Global, body: &Body<'_>, tag: &Name, attributes: &[Prope
     let twice = repeated(alloc, names.as_slice())?;
     let beside = beside_children(children, names.as_slice())?;
     let keys = keys_of(is_server(body, tag), names.as_slice())?;
-    Ok(first_of(unknown, first_of(twice, first_of(beside, first_of(keys, parts)))))
+    Ok(first_of(
+        unknown,
+        first_of(twice, first_of(beside, first_of(keys, parts))),
+    ))
 }
 
 /// The first attribute `children`, beside children.
@@ -54,7 +64,11 @@ fn has_children(children: &[Tree]) -> bool
 fn children_if(some: bool, names: &[&Name]) -> Result<Option<NameFault>, Memory>
     ensures { IfOk result (λ fault. IsFirst fault (if some then faults.children_attributes (map (λ n. placed n.now) names.now) else [])) }
 {
-    if some { children_attribute(names) } else { Ok(None) }
+    if some {
+        children_attribute(names)
+    } else {
+        Ok(None)
+    }
 }
 
 /// The first attribute `key`, of a server component.

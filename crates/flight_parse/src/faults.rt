@@ -17,14 +17,40 @@ use std::alloc::Global;
 
 /// The first fault of the names in an expression.
 #[cycle(faults)]
-pub fn in_tree<'a>(alloc: Global, body: &Body<'_>, locals: &[&'a Name], tree: &'a Tree) -> Result<Option<NameFault>, Memory>
+pub fn in_tree<'a>(
+    alloc: Global,
+    body: &Body<'_>,
+    locals: &[&'a Name],
+    tree: &'a Tree,
+) -> Result<Option<NameFault>, Memory>
     requires { IsKnown body.now }
     ensures { IfOk result (λ fault. IsFirst fault (faults.faults (all_of body.now) (scope_of body.now locals.now) (tree_of tree.now))) }
 {
     match tree {
-        Tree::Let { name, value, then } => in_local(alloc, body, locals, name, value.get(), then.get()),
-        Tree::If { test, yes, no } => in_three(alloc, body, locals, test.get(), yes.get(), no.get()),
-        Tree::For { name, over, give } => in_local(alloc, body, locals, name, over.get(), give.get()),
+        Tree::Let { name, value, then } => in_local(
+            alloc,
+            body,
+            locals,
+            name,
+            value.get(),
+            then.get(),
+        ),
+        Tree::If { test, yes, no } => in_three(
+            alloc,
+            body,
+            locals,
+            test.get(),
+            yes.get(),
+            no.get(),
+        ),
+        Tree::For { name, over, give } => in_local(
+            alloc,
+            body,
+            locals,
+            name,
+            over.get(),
+            give.get(),
+        ),
         Tree::Throw(value) => in_tree(alloc, body, locals, value.get()),
         Tree::Member { of, .. } => in_tree(alloc, body, locals, of.get()),
         Tree::Index { of, at } => in_two(alloc, body, locals, of.get(), at.get()),
@@ -46,13 +72,27 @@ pub fn in_tree<'a>(alloc: Global, body: &Body<'_>, locals: &[&'a Name], tree: &'
             tag,
             attributes,
             children,
-        } => in_element(alloc, body, locals, tag, attributes.as_slice(), children.as_slice()),
+        } => in_element(
+            alloc,
+            body,
+            locals,
+            tag,
+            attributes.as_slice(),
+            children.as_slice(),
+        ),
     }
 }
 
 /// In what a variable stands for, and where it is in scope.
 #[cycle(faults)]
-fn in_local<'a>(alloc: Global, body: &Body<'_>, locals: &[&'a Name], name: &'a Name, value: &'a Tree, then: &'a Tree) -> Result<Option<NameFault>, Memory>
+fn in_local<'a>(
+    alloc: Global,
+    body: &Body<'_>,
+    locals: &[&'a Name],
+    name: &'a Name,
+    value: &'a Tree,
+    then: &'a Tree,
+) -> Result<Option<NameFault>, Memory>
     requires { IsKnown body.now }
     ensures { IfOk result (λ fault. IsFirst fault (faults.faults (all_of body.now) (scope_of body.now locals.now) (tree_of value.now) ++ faults.faults (all_of body.now) (placed name.now ∷ scope_of body.now locals.now) (tree_of then.now))) }
 {
@@ -64,7 +104,13 @@ fn in_local<'a>(alloc: Global, body: &Body<'_>, locals: &[&'a Name], name: &'a N
 
 /// In two expressions.
 #[cycle(faults)]
-fn in_two<'a>(alloc: Global, body: &Body<'_>, locals: &[&'a Name], one: &'a Tree, other: &'a Tree) -> Result<Option<NameFault>, Memory>
+fn in_two<'a>(
+    alloc: Global,
+    body: &Body<'_>,
+    locals: &[&'a Name],
+    one: &'a Tree,
+    other: &'a Tree,
+) -> Result<Option<NameFault>, Memory>
     requires { IsKnown body.now }
     ensures { IfOk result (λ fault. IsFirst fault (faults.faults (all_of body.now) (scope_of body.now locals.now) (tree_of one.now) ++ faults.faults (all_of body.now) (scope_of body.now locals.now) (tree_of other.now))) }
 {
@@ -75,7 +121,14 @@ fn in_two<'a>(alloc: Global, body: &Body<'_>, locals: &[&'a Name], one: &'a Tree
 
 /// In three expressions.
 #[cycle(faults)]
-fn in_three<'a>(alloc: Global, body: &Body<'_>, locals: &[&'a Name], one: &'a Tree, two: &'a Tree, three: &'a Tree) -> Result<Option<NameFault>, Memory>
+fn in_three<'a>(
+    alloc: Global,
+    body: &Body<'_>,
+    locals: &[&'a Name],
+    one: &'a Tree,
+    two: &'a Tree,
+    three: &'a Tree,
+) -> Result<Option<NameFault>, Memory>
     requires { IsKnown body.now }
     ensures { IfOk result (λ fault. IsFirst fault (faults.faults (all_of body.now) (scope_of body.now locals.now) (tree_of one.now) ++ (faults.faults (all_of body.now) (scope_of body.now locals.now) (tree_of two.now) ++ faults.faults (all_of body.now) (scope_of body.now locals.now) (tree_of three.now)))) }
 {
@@ -86,7 +139,13 @@ fn in_three<'a>(alloc: Global, body: &Body<'_>, locals: &[&'a Name], one: &'a Tr
 
 /// In an action and its arguments.
 #[cycle(faults)]
-fn in_bound<'a>(alloc: Global, body: &Body<'_>, locals: &[&'a Name], name: &'a Name, bound: &'a [Tree]) -> Result<Option<NameFault>, Memory>
+fn in_bound<'a>(
+    alloc: Global,
+    body: &Body<'_>,
+    locals: &[&'a Name],
+    name: &'a Name,
+    bound: &'a [Tree],
+) -> Result<Option<NameFault>, Memory>
     requires { IsKnown body.now }
     ensures { IfOk result (λ fault. IsFirst fault (faults.unless_known (faults.is_named name.now.bytes (faults.actions (all_of body.now))) (placed name.now) ++ faults.faults_each (all_of body.now) (scope_of body.now locals.now) (trees_of (map tree_of bound.now)))) }
 {
@@ -97,7 +156,12 @@ fn in_bound<'a>(alloc: Global, body: &Body<'_>, locals: &[&'a Name], name: &'a N
 
 /// In the properties of an object, and in their names.
 #[cycle(faults)]
-fn in_object<'a>(alloc: Global, body: &Body<'_>, locals: &[&'a Name], properties: &'a [Property]) -> Result<Option<NameFault>, Memory>
+fn in_object<'a>(
+    alloc: Global,
+    body: &Body<'_>,
+    locals: &[&'a Name],
+    properties: &'a [Property],
+) -> Result<Option<NameFault>, Memory>
     requires { IsKnown body.now }
     ensures { IfOk result (λ fault. IsFirst fault (faults.repeated [] (faults.property_names (props_of (map property_of properties.now))) ++ faults.faults_props (all_of body.now) (scope_of body.now locals.now) (props_of (map property_of properties.now)))) }
 {
@@ -109,7 +173,14 @@ fn in_object<'a>(alloc: Global, body: &Body<'_>, locals: &[&'a Name], properties
 
 /// In an element.
 #[cycle(faults)]
-fn in_element<'a>(alloc: Global, body: &Body<'_>, locals: &[&'a Name], tag: &'a Name, attributes: &'a [Property], children: &'a [Tree]) -> Result<Option<NameFault>, Memory>
+fn in_element<'a>(
+    alloc: Global,
+    body: &Body<'_>,
+    locals: &[&'a Name],
+    tag: &'a Name,
+    attributes: &'a [Property],
+    children: &'a [Tree],
+) -> Result<Option<NameFault>, Memory>
     requires { IsKnown body.now }
     ensures { IfOk result (λ fault. IsFirst fault (faults.faults (all_of body.now) (scope_of body.now locals.now) (tree.element (placed tag.now) (props_of (map property_of attributes.now)) (trees_of (map tree_of children.now))))) }
 {
@@ -121,7 +192,12 @@ fn in_element<'a>(alloc: Global, body: &Body<'_>, locals: &[&'a Name], tag: &'a 
 
 /// In expressions.
 #[cycle(faults)]
-fn in_each<'a>(alloc: Global, body: &Body<'_>, locals: &[&'a Name], items: &'a [Tree]) -> Result<Option<NameFault>, Memory>
+fn in_each<'a>(
+    alloc: Global,
+    body: &Body<'_>,
+    locals: &[&'a Name],
+    items: &'a [Tree],
+) -> Result<Option<NameFault>, Memory>
     requires { IsKnown body.now }
     ensures { IfOk result (λ fault. IsFirst fault (faults.faults_each (all_of body.now) (scope_of body.now locals.now) (trees_of (map tree_of items.now)))) }
 {
@@ -135,7 +211,12 @@ fn in_each<'a>(alloc: Global, body: &Body<'_>, locals: &[&'a Name], items: &'a [
 
 /// In the values of properties.
 #[cycle(faults)]
-fn in_properties<'a>(alloc: Global, body: &Body<'_>, locals: &[&'a Name], properties: &'a [Property]) -> Result<Option<NameFault>, Memory>
+fn in_properties<'a>(
+    alloc: Global,
+    body: &Body<'_>,
+    locals: &[&'a Name],
+    properties: &'a [Property],
+) -> Result<Option<NameFault>, Memory>
     requires { IsKnown body.now }
     ensures { IfOk result (λ fault. IsFirst fault (faults.faults_props (all_of body.now) (scope_of body.now locals.now) (props_of (map property_of properties.now)))) }
 {
@@ -149,7 +230,12 @@ fn in_properties<'a>(alloc: Global, body: &Body<'_>, locals: &[&'a Name], proper
 
 /// In the entries of a map.
 #[cycle(faults)]
-fn in_entries<'a>(alloc: Global, body: &Body<'_>, locals: &[&'a Name], entries: &'a [Entry]) -> Result<Option<NameFault>, Memory>
+fn in_entries<'a>(
+    alloc: Global,
+    body: &Body<'_>,
+    locals: &[&'a Name],
+    entries: &'a [Entry],
+) -> Result<Option<NameFault>, Memory>
     requires { IsKnown body.now }
     ensures { IfOk result (λ fault. IsFirst fault (faults.faults_pairs (all_of body.now) (scope_of body.now locals.now) (pairs_of (map entry_of entries.now)))) }
 {
@@ -163,7 +249,12 @@ fn in_entries<'a>(alloc: Global, body: &Body<'_>, locals: &[&'a Name], entries: 
 
 /// In the value of a property.
 #[cycle(faults)]
-fn in_property<'a>(alloc: Global, body: &Body<'_>, locals: &[&'a Name], property: &'a Property) -> Result<Option<NameFault>, Memory>
+fn in_property<'a>(
+    alloc: Global,
+    body: &Body<'_>,
+    locals: &[&'a Name],
+    property: &'a Property,
+) -> Result<Option<NameFault>, Memory>
     requires { IsKnown body.now }
     ensures { IfOk result (λ fault. IsFirst fault (faults.faults (all_of body.now) (scope_of body.now locals.now) (property_of property.now).1)) }
 {
@@ -172,7 +263,12 @@ fn in_property<'a>(alloc: Global, body: &Body<'_>, locals: &[&'a Name], property
 
 /// In an entry of a map.
 #[cycle(faults)]
-fn in_entry<'a>(alloc: Global, body: &Body<'_>, locals: &[&'a Name], entry: &'a Entry) -> Result<Option<NameFault>, Memory>
+fn in_entry<'a>(
+    alloc: Global,
+    body: &Body<'_>,
+    locals: &[&'a Name],
+    entry: &'a Entry,
+) -> Result<Option<NameFault>, Memory>
     requires { IsKnown body.now }
     ensures { IfOk result (λ fault. IsFirst fault (faults.faults (all_of body.now) (scope_of body.now locals.now) (entry_of entry.now).0 ++ faults.faults (all_of body.now) (scope_of body.now locals.now) (entry_of entry.now).1)) }
 {

@@ -82,14 +82,24 @@ fn value_in(alloc: Global, member: &Member) -> Result<Value, Memory>
 }
 
 /// A member takes the place of one of its name.
-fn put_in(alloc: Global, object: &mut Map<String, Value>, member: &Member, value: Value) -> Result<(), Memory>
+fn put_in(
+    alloc: Global,
+    object: &mut Map<String, Value>,
+    member: &Member,
+    value: Value,
+) -> Result<(), Memory>
     ensures { OnOk result (members_view object.new.entries ≡ json_data.put (member_of member.now).0.bytes (view value) (members_view object.old.entries)) }
 {
     put(alloc, object, &member.name.bytes, value)
 }
 
 /// A value takes the place of one of its name.
-fn put(alloc: Global, object: &mut Map<String, Value>, name: &Text, value: Value) -> Result<(), Memory>
+fn put(
+    alloc: Global,
+    object: &mut Map<String, Value>,
+    name: &Text,
+    value: Value,
+) -> Result<(), Memory>
     ensures { OnOk result (members_view object.new.entries ≡ json_data.put name.now (view value) (members_view object.old.entries)) }
 {
     let name = String::from_str(alloc, name.as_str())?;

@@ -12,7 +12,11 @@ use flight_tree::Name;
 use flight_value::Memory;
 
 /// A name that is no variable in scope.
-pub fn unknown_variable(body: &Body<'_>, locals: &[&Name], name: &Name) -> Result<Option<NameFault>, Memory>
+pub fn unknown_variable(
+    body: &Body<'_>,
+    locals: &[&Name],
+    name: &Name,
+) -> Result<Option<NameFault>, Memory>
     requires { IsKnown body.now }
     ensures { IfOk result (λ fault. IsFirst fault (faults.unless_known (is_named name.now.bytes (scope_of body.now locals.now)) (placed name.now))) }
 {

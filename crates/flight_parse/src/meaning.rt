@@ -7,7 +7,10 @@ ghost use Rattle.flight_tree.specs.Code.{placed, tree_of, property_of, entry_of}
 ghost use Rattle.flight_parse.specs.Names.{IsKnown, all_of, names_of};
 
 use crate::body::{Body, with_local};
-use crate::build::{action, action_with, atom, binary, client, element, for_in, if_else, index, let_in, member, paren, throw, variable_of};
+use crate::build::{
+    action, action_with, atom, binary, client, element, for_in, if_else, index, let_in, member,
+    paren, throw, variable_of,
+};
 use flight_syntax::{Expr, PairExpr, PropExpr};
 use flight_tree::{Entry, Name, Property, Tree};
 use flight_value::Memory;
@@ -16,7 +19,12 @@ use std::alloc::Global;
 
 /// What an expression means, with numbers in place of names. A name that is unknown is number 0.
 #[cycle(meaning)]
-pub fn expr_of<'a>(alloc: Global, body: &Body<'_>, locals: &[&'a Name], tree: &'a Tree) -> Result<Expr, Memory>
+pub fn expr_of<'a>(
+    alloc: Global,
+    body: &Body<'_>,
+    locals: &[&'a Name],
+    tree: &'a Tree,
+) -> Result<Expr, Memory>
     requires { IsKnown body.now }
     ensures { IfOk result (λ e. term e ≡ meaning (all_of body.now) (names_of body.now locals.now) (tree_of tree.now)) }
 {
@@ -44,7 +52,12 @@ pub fn expr_of<'a>(alloc: Global, body: &Body<'_>, locals: &[&'a Name], tree: &'
         Tree::Variable(name) => variable_of(body, locals, name),
         Tree::Client(name) => Ok(client(body, name)),
         Tree::Array(items) => Ok(Expr::Array(exprs_of(alloc, body, locals, items.as_slice())?)),
-        Tree::Object(properties) => Ok(Expr::Object(props_in(alloc, body, locals, properties.as_slice())?)),
+        Tree::Object(properties) => Ok(Expr::Object(props_in(
+            alloc,
+            body,
+            locals,
+            properties.as_slice(),
+        )?)),
         Tree::Map(entries) => Ok(Expr::Map(pairs_in(alloc, body, locals, entries.as_slice())?)),
         Tree::Set(items) => Ok(Expr::Set(exprs_of(alloc, body, locals, items.as_slice())?)),
         Tree::Source(name) => Ok(Expr::Source(name.bytes.clone()?)),
@@ -76,7 +89,14 @@ pub fn expr_of<'a>(alloc: Global, body: &Body<'_>, locals: &[&'a Name], tree: &'
 
 /// What a variable stands for, and where it is in scope.
 #[cycle(meaning)]
-fn local_of<'a>(alloc: Global, body: &Body<'_>, locals: &[&'a Name], name: &'a Name, value: &'a Tree, then: &'a Tree) -> Result<(Expr, Expr), Memory>
+fn local_of<'a>(
+    alloc: Global,
+    body: &Body<'_>,
+    locals: &[&'a Name],
+    name: &'a Name,
+    value: &'a Tree,
+    then: &'a Tree,
+) -> Result<(Expr, Expr), Memory>
     requires { IsKnown body.now }
     ensures { IfOk result (λ p. (term p.0 ≡ meaning (all_of body.now) (names_of body.now locals.now) (tree_of value.now)) × (term p.1 ≡ meaning (all_of body.now) (names_of body.now locals.now ++ name.now.bytes ∷ []) (tree_of then.now))) }
 {
@@ -88,7 +108,13 @@ fn local_of<'a>(alloc: Global, body: &Body<'_>, locals: &[&'a Name], name: &'a N
 
 /// Two expressions.
 #[cycle(meaning)]
-fn two_of<'a>(alloc: Global, body: &Body<'_>, locals: &[&'a Name], one: &'a Tree, other: &'a Tree) -> Result<(Expr, Expr), Memory>
+fn two_of<'a>(
+    alloc: Global,
+    body: &Body<'_>,
+    locals: &[&'a Name],
+    one: &'a Tree,
+    other: &'a Tree,
+) -> Result<(Expr, Expr), Memory>
     requires { IsKnown body.now }
     ensures { IfOk result (λ p. (term p.0 ≡ meaning (all_of body.now) (names_of body.now locals.now) (tree_of one.now)) × (term p.1 ≡ meaning (all_of body.now) (names_of body.now locals.now) (tree_of other.now))) }
 {
@@ -99,7 +125,12 @@ fn two_of<'a>(alloc: Global, body: &Body<'_>, locals: &[&'a Name], one: &'a Tree
 
 /// Expressions.
 #[cycle(meaning)]
-fn exprs_of<'a>(alloc: Global, body: &Body<'_>, locals: &[&'a Name], items: &'a [Tree]) -> Result<Items<Expr>, Memory>
+fn exprs_of<'a>(
+    alloc: Global,
+    body: &Body<'_>,
+    locals: &[&'a Name],
+    items: &'a [Tree],
+) -> Result<Items<Expr>, Memory>
     requires { IsKnown body.now }
     ensures { IfOk result (λ out. terms.terms_of (map term out) ≡ meanings (all_of body.now) (names_of body.now locals.now) (trees_of (map tree_of items.now))) }
 {
@@ -113,7 +144,12 @@ fn exprs_of<'a>(alloc: Global, body: &Body<'_>, locals: &[&'a Name], items: &'a 
 
 /// Properties.
 #[cycle(meaning)]
-fn props_in<'a>(alloc: Global, body: &Body<'_>, locals: &[&'a Name], properties: &'a [Property]) -> Result<Items<PropExpr>, Memory>
+fn props_in<'a>(
+    alloc: Global,
+    body: &Body<'_>,
+    locals: &[&'a Name],
+    properties: &'a [Property],
+) -> Result<Items<PropExpr>, Memory>
     requires { IsKnown body.now }
     ensures { IfOk result (λ out. terms.props_of (map prop out) ≡ meaning_props (all_of body.now) (names_of body.now locals.now) (props_of (map property_of properties.now))) }
 {
@@ -127,7 +163,12 @@ fn props_in<'a>(alloc: Global, body: &Body<'_>, locals: &[&'a Name], properties:
 
 /// Entries.
 #[cycle(meaning)]
-fn pairs_in<'a>(alloc: Global, body: &Body<'_>, locals: &[&'a Name], entries: &'a [Entry]) -> Result<Items<PairExpr>, Memory>
+fn pairs_in<'a>(
+    alloc: Global,
+    body: &Body<'_>,
+    locals: &[&'a Name],
+    entries: &'a [Entry],
+) -> Result<Items<PairExpr>, Memory>
     requires { IsKnown body.now }
     ensures { IfOk result (λ out. terms.pairs_of (map pair out) ≡ meaning_pairs (all_of body.now) (names_of body.now locals.now) (pairs_of (map entry_of entries.now))) }
 {
@@ -141,7 +182,12 @@ fn pairs_in<'a>(alloc: Global, body: &Body<'_>, locals: &[&'a Name], entries: &'
 
 /// A property.
 #[cycle(meaning)]
-fn prop_of<'a>(alloc: Global, body: &Body<'_>, locals: &[&'a Name], property: &'a Property) -> Result<PropExpr, Memory>
+fn prop_of<'a>(
+    alloc: Global,
+    body: &Body<'_>,
+    locals: &[&'a Name],
+    property: &'a Property,
+) -> Result<PropExpr, Memory>
     requires { IsKnown body.now }
     ensures name { IfOk result (λ p. (prop p).0 ≡ (property_of property.now).0.bytes) }
     ensures value { IfOk result (λ p. (prop p).1 ≡ meaning (all_of body.now) (names_of body.now locals.now) (property_of property.now).1) }
@@ -153,7 +199,12 @@ fn prop_of<'a>(alloc: Global, body: &Body<'_>, locals: &[&'a Name], property: &'
 
 /// An entry.
 #[cycle(meaning)]
-fn pair_of<'a>(alloc: Global, body: &Body<'_>, locals: &[&'a Name], entry: &'a Entry) -> Result<PairExpr, Memory>
+fn pair_of<'a>(
+    alloc: Global,
+    body: &Body<'_>,
+    locals: &[&'a Name],
+    entry: &'a Entry,
+) -> Result<PairExpr, Memory>
     requires { IsKnown body.now }
     ensures key { IfOk result (λ p. (pair p).0 ≡ meaning (all_of body.now) (names_of body.now locals.now) (entry_of entry.now).0) }
     ensures value { IfOk result (λ p. (pair p).1 ≡ meaning (all_of body.now) (names_of body.now locals.now) (entry_of entry.now).1) }

@@ -24,7 +24,11 @@ use flight_value::{List, Memory, Text};
 use std::alloc::Global;
 
 /// The first fault of a program's names.
-pub fn first_fault(alloc: Global, declared: &[Declaration], tables: &Tables) -> Result<Option<NameFault>, Memory>
+pub fn first_fault(
+    alloc: Global,
+    declared: &[Declaration],
+    tables: &Tables,
+) -> Result<Option<NameFault>, Memory>
     requires { AreTables tables.now (map declaration_of declared.now) }
     ensures { IfOk result (λ fault. IsFirst fault (faults.program_faults (map declaration_of declared.now))) }
 {
@@ -83,7 +87,11 @@ fn action(declaration: &Declaration) -> Option<&Name>
 }
 
 /// The first fault in the declarations themselves.
-fn in_declarations(alloc: Global, declared: &[Declaration], tables: &Tables) -> Result<Option<NameFault>, Memory>
+fn in_declarations(
+    alloc: Global,
+    declared: &[Declaration],
+    tables: &Tables,
+) -> Result<Option<NameFault>, Memory>
     requires { AreTables tables.now (map declaration_of declared.now) }
     ensures { IfOk result (λ fault. IsFirst fault (faults.each_faults (map declaration_of declared.now) (map declaration_of declared.now))) }
 {
@@ -96,7 +104,12 @@ fn in_declarations(alloc: Global, declared: &[Declaration], tables: &Tables) -> 
 }
 
 /// The first fault in a declaration.
-fn in_declaration(alloc: Global, declared: &[Declaration], tables: &Tables, declaration: &Declaration) -> Result<Option<NameFault>, Memory>
+fn in_declaration(
+    alloc: Global,
+    declared: &[Declaration],
+    tables: &Tables,
+    declaration: &Declaration,
+) -> Result<Option<NameFault>, Memory>
     requires { AreTables tables.now (map declaration_of declared.now) }
     ensures { IfOk result (λ fault. IsFirst fault (faults.declaration_faults (map declaration_of declared.now) (declaration_of declaration.now))) }
 {
@@ -109,7 +122,13 @@ fn in_declaration(alloc: Global, declared: &[Declaration], tables: &Tables, decl
 }
 
 /// The first fault in parameters and the body under them.
-fn in_body(alloc: Global, declared: &[Declaration], tables: &Tables, params: &[Name], tree: &Tree) -> Result<Option<NameFault>, Memory>
+fn in_body(
+    alloc: Global,
+    declared: &[Declaration],
+    tables: &Tables,
+    params: &[Name],
+    tree: &Tree,
+) -> Result<Option<NameFault>, Memory>
     requires { AreTables tables.now (map declaration_of declared.now) }
     ensures { IfOk result (λ fault. IsFirst fault (faults.repeated [] (map placed params.now) ++ faults.faults (map declaration_of declared.now) (map placed params.now) (tree_of tree.now))) }
 {
@@ -184,7 +203,12 @@ pub fn program(alloc: Global, declared: &[Declaration], tables: &Tables) -> Resu
 }
 
 /// A declaration as it is kept.
-fn declared_as(alloc: Global, declared: &[Declaration], tables: &Tables, declaration: &Declaration) -> Result<Declared, Memory>
+fn declared_as(
+    alloc: Global,
+    declared: &[Declaration],
+    tables: &Tables,
+    declaration: &Declaration,
+) -> Result<Declared, Memory>
     requires { AreTables tables.now (map declaration_of declared.now) }
     ensures { IfOk result (λ kept. IsKept (map declaration_of declared.now) (declaration_of declaration.now) (said kept)) }
 {
@@ -210,7 +234,13 @@ fn declared_as(alloc: Global, declared: &[Declaration], tables: &Tables, declara
 }
 
 /// What a body means under its parameters.
-fn body_of(alloc: Global, declared: &[Declaration], tables: &Tables, params: &[Name], tree: &Tree) -> Result<Expr, Memory>
+fn body_of(
+    alloc: Global,
+    declared: &[Declaration],
+    tables: &Tables,
+    params: &[Name],
+    tree: &Tree,
+) -> Result<Expr, Memory>
     requires { AreTables tables.now (map declaration_of declared.now) }
     ensures { IfOk result (λ e. term e ≡ meaning (map declaration_of declared.now) (bytes_of (map placed params.now)) (tree_of tree.now)) }
 {

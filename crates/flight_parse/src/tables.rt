@@ -42,7 +42,11 @@ pub fn tables_of(alloc: Global, declared: &[Declaration]) -> Result<Tables, Memo
 }
 
 /// Where the declarations of one kind stand, the first of each name. They are met from the last to the first.
-fn numbers(alloc: Global, declared: &[Declaration], kind: Kind) -> Result<HashMap<Text, u32>, Memory>
+fn numbers(
+    alloc: Global,
+    declared: &[Declaration],
+    kind: Kind,
+) -> Result<HashMap<Text, u32>, Memory>
     ensures { IfOk result (λ numbers. Knows numbers (λ q. number_of (is_kind kind q) (map declaration_of declared.now))) }
 {
     let mut numbers = HashMap::new(alloc);
@@ -55,7 +59,12 @@ fn numbers(alloc: Global, declared: &[Declaration], kind: Kind) -> Result<HashMa
 }
 
 /// A declaration takes the place of a later one of its name.
-fn meet(numbers: &mut HashMap<Text, u32>, kind: Kind, declaration: &Declaration, at: usize) -> Result<(), Memory>
+fn meet(
+    numbers: &mut HashMap<Text, u32>,
+    kind: Kind,
+    declaration: &Declaration,
+    at: usize,
+) -> Result<(), Memory>
     ensures { OnOk result ((q : List ℕ) → get bytes_eq numbers.new q ≡ cond (is_kind kind q (declaration_of declaration.now)) (Some at) (get bytes_eq numbers.old q)) }
 {
     match (kind, declaration) {

@@ -36,9 +36,18 @@ fn outcome(rt: &impl Abort, alloc: Global, text: &str) -> Result<String, Fail> {
 #[test]
 fn texts_come_to_programs_and_faults(rt: HostRuntime) -> Result<(), Fail> {
     for (text, expected) in [
-        ("server Left(o) = <b a={o} t={use u}/>;\nserver Right(o) = <i a={o} t={use v}/>;\nserver App() = let o = {k: 1} in [<Left o={o}/>, <Right o={o}/>];\n", "program"),
-        ("client Tag = {\"id\": \"x\", \"chunks\": [1, -2, null, true]};\naction act(a) = (a + 1);\nserver App() = <Tag go={action act with [2]}>\"t\"</Tag>;", "program"),
-        ("server App() = for x in [1, -0] give if (x == 1) then map [[x, set []]] else throw \"no\";", "program"),
+        (
+            "server Left(o) = <b a={o} t={use u}/>;\nserver Right(o) = <i a={o} t={use v}/>;\nserver App() = let o = {k: 1} in [<Left o={o}/>, <Right o={o}/>];\n",
+            "program",
+        ),
+        (
+            "client Tag = {\"id\": \"x\", \"chunks\": [1, -2, null, true]};\naction act(a) = (a + 1);\nserver App() = <Tag go={action act with [2]}>\"t\"</Tag>;",
+            "program",
+        ),
+        (
+            "server App() = for x in [1, -0] give if (x == 1) then map [[x, set []]] else throw \"no\";",
+            "program",
+        ),
         ("server App() = x;", "unknown x at 15"),
         ("server App() = @;", "bad byte at 15"),
         ("server App() = \"a;", "bad text at 15"),
@@ -52,26 +61,47 @@ fn texts_come_to_programs_and_faults(rt: HostRuntime) -> Result<(), Fail> {
         ("server App() = 1; server App() = 2;", "twice App at 25"),
         ("server App() = {a: 1, \"a\": 2};", "twice a at 22"),
         ("server App() = <a b=\"1\" b=\"2\"/>;", "twice b at 24"),
-        ("server App() = <a children=\"1\">\"x\"</a>;", "twice children at 18"),
-        ("server B() = 1; server App() = <B key=\"k\"/>;", "key on server at 34"),
+        (
+            "server App() = <a children=\"1\">\"x\"</a>;",
+            "twice children at 18",
+        ),
+        (
+            "server B() = 1; server App() = <B key=\"k\"/>;",
+            "key on server at 34",
+        ),
         ("server App() = <B/>;", "unknown B at 16"),
         ("server App() = action go;", "unknown go at 22"),
         ("server B() = 1;", "no App"),
         ("client App = 1;", "no App"),
-        ("server App(a) = let b = a in [b, for a in b give a];", "program"),
+        (
+            "server App(a) = let b = a in [b, for a in b give a];",
+            "program",
+        ),
         ("server App() = [let b = 1 in b, b];", "unknown b at 32"),
         ("server App() = ; @", "bad byte at 17"),
         ("server App() = x ;;", "unexpected at 18"),
         ("server App(a, a) = x;", "twice a at 14"),
         ("server App() = [x, {a: 1, a: 2}];", "unknown x at 16"),
-        ("server B() = 1; server App() = <B key={x}/>;", "key on server at 34"),
+        (
+            "server B() = 1; server App() = <B key={x}/>;",
+            "key on server at 34",
+        ),
         ("server App() = [x, <App key=\"k\"/>];", "unknown x at 16"),
-        ("server App() = [<App key=\"k\"/>, {a: 1, a: 2}];", "key on server at 21"),
-        ("server App() = [{a: 1, a: 2}, <App key=\"k\"/>];", "twice a at 23"),
+        (
+            "server App() = [<App key=\"k\"/>, {a: 1, a: 2}];",
+            "key on server at 21",
+        ),
+        (
+            "server App() = [{a: 1, a: 2}, <App key=\"k\"/>];",
+            "twice a at 23",
+        ),
         ("server B() = x;", "unknown x at 13"),
     ] {
         let found = outcome(&rt, rt.alloc(), text)?;
-        assert!(rt; found.as_str() == expected, "{text}: {found}, not {expected}");
+        assert!(rt;
+            found.as_str() == expected,
+            "{text}: {found}, not {expected}"
+        );
     }
     Ok(())
 }
@@ -95,7 +125,10 @@ fn nesting_ends_at_a_hundred(rt: HostRuntime) -> Result<(), Fail> {
         }
         text.push_str(rest)?;
         let found = outcome(&rt, rt.alloc(), text.as_str())?;
-        assert!(rt; found.as_str() == expected, "{text}: {found}, not {expected}");
+        assert!(rt;
+            found.as_str() == expected,
+            "{text}: {found}, not {expected}"
+        );
     }
     Ok(())
 }

@@ -10,23 +10,23 @@ use Rattle.flight_parse.proofs.faults.+faults.Goals as goal
 pub in_each-loop-item-preserved : goal.in_each-loop-item-preserved
 in_each-loop-item-preserved t c =
     steps (λ xs. faults.faults_each (all_of c.args.body.now) (scope_of c.args.body.now c.args.locals.now) (trees_of (map tree_of xs))) (λ x. faults.faults (all_of c.args.body.now) (scope_of c.args.body.now c.args.locals.now) (tree_of x)) (λ x xs. refl)
-      c.args.items.now c.loop-item.item-index c.item-item.result (omega arith) c.item-item.is c.loop-item.first c.first_of-first.result c.in_ok-fault.fault (faults.first_fault (faults.faults_each (all_of c.args.body.now) (scope_of c.args.body.now c.args.locals.now) (trees_of (map tree_of c.args.items.now))))
-      c.loop-item.invariant c.in_ok-fault.ensures c.first_of-first.ensures.is
+    c.args.items.now c.loop-item.item-index c.item-item.result (omega arith) c.item-item.is c.loop-item.first c.first_of-first.result c.in_ok-fault.fault (faults.first_fault (faults.faults_each (all_of c.args.body.now) (scope_of c.args.body.now c.args.locals.now) (trees_of (map tree_of c.args.items.now))))
+    c.loop-item.invariant c.in_ok-fault.ensures c.first_of-first.ensures.is
 
 pub in_properties-loop-property-preserved : goal.in_properties-loop-property-preserved
 in_properties-loop-property-preserved t c =
     steps (λ xs. faults.faults_props (all_of c.args.body.now) (scope_of c.args.body.now c.args.locals.now) (props_of (map property_of xs))) (λ x. faults.faults (all_of c.args.body.now) (scope_of c.args.body.now c.args.locals.now) (property_of x).1) (λ x xs. refl)
-      c.args.properties.now c.loop-property.property-index c.property-item.result (omega arith) c.property-item.is c.loop-property.first c.first_of-first.result c.in_ok-fault.fault (faults.first_fault (faults.faults_props (all_of c.args.body.now) (scope_of c.args.body.now c.args.locals.now) (props_of (map property_of c.args.properties.now))))
-      c.loop-property.invariant c.in_ok-fault.ensures c.first_of-first.ensures.is
+    c.args.properties.now c.loop-property.property-index c.property-item.result (omega arith) c.property-item.is c.loop-property.first c.first_of-first.result c.in_ok-fault.fault (faults.first_fault (faults.faults_props (all_of c.args.body.now) (scope_of c.args.body.now c.args.locals.now) (props_of (map property_of c.args.properties.now))))
+    c.loop-property.invariant c.in_ok-fault.ensures c.first_of-first.ensures.is
 
 pub in_entries-loop-entry-preserved : goal.in_entries-loop-entry-preserved
 in_entries-loop-entry-preserved t c =
     steps (λ xs. faults.faults_pairs (all_of c.args.body.now) (scope_of c.args.body.now c.args.locals.now) (pairs_of (map entry_of xs))) (λ x. faults.faults (all_of c.args.body.now) (scope_of c.args.body.now c.args.locals.now) (entry_of x).0 ++ faults.faults (all_of c.args.body.now) (scope_of c.args.body.now c.args.locals.now) (entry_of x).1) (λ x xs. sym (append_assoc (faults.faults (all_of c.args.body.now) (scope_of c.args.body.now c.args.locals.now) (entry_of x).0) (faults.faults (all_of c.args.body.now) (scope_of c.args.body.now c.args.locals.now) (entry_of x).1) (faults.faults_pairs (all_of c.args.body.now) (scope_of c.args.body.now c.args.locals.now) (pairs_of (map entry_of xs)))))
-      c.args.entries.now c.loop-entry.entry-index c.entry-item.result (omega arith) c.entry-item.is c.loop-entry.first c.first_of-first.result c.in_ok-fault.fault (faults.first_fault (faults.faults_pairs (all_of c.args.body.now) (scope_of c.args.body.now c.args.locals.now) (pairs_of (map entry_of c.args.entries.now))))
-      c.loop-entry.invariant c.in_ok-fault.ensures c.first_of-first.ensures.is
+    c.args.entries.now c.loop-entry.entry-index c.entry-item.result (omega arith) c.entry-item.is c.loop-entry.first c.first_of-first.result c.in_ok-fault.fault (faults.first_fault (faults.faults_pairs (all_of c.args.body.now) (scope_of c.args.body.now c.args.locals.now) (pairs_of (map entry_of c.args.entries.now))))
+    c.loop-entry.invariant c.in_ok-fault.ensures c.first_of-first.ensures.is
 
 pub in_local-returns : goal.in_local-returns
 in_local-returns t c =
     let scope = ap (λ z. inside_out (params_of c.args.body.now) (map (λ n. placed n.now) z)) c.as_slice.ensures.value ∙ (ap (inside_out (params_of c.args.body.now)) c.in_ok-inner.ensures.placed ∙ inside_one (params_of c.args.body.now) (map (λ n. placed n.now) c.args.locals.now) (placed c.args.name.now)) in
     c.first_of.ensures.parts (faults.faults (all_of c.args.body.now) (scope_of c.args.body.now c.args.locals.now) (tree_of c.args.value.now)) (faults.faults (all_of c.args.body.now) (placed c.args.name.now ∷ scope_of c.args.body.now c.args.locals.now) (tree_of c.args.then.now))
-      c.in_ok-first.ensures (subst (λ s. IsFirst c.in_ok-other.other (faults.faults (all_of c.args.body.now) s (tree_of c.args.then.now))) scope c.in_ok-other.ensures)
+    c.in_ok-first.ensures (subst (λ s. IsFirst c.in_ok-other.other (faults.faults (all_of c.args.body.now) s (tree_of c.args.then.now))) scope c.in_ok-other.ensures)

@@ -8,5 +8,5 @@ use Rattle.flight_parse.proofs.program.in_declarations.Goals as goal
 pub loop-declaration-preserved : goal.loop-declaration-preserved
 loop-declaration-preserved c =
     steps (λ ds. faults.each_faults (map declaration_of c.args.declared.now) (map declaration_of ds)) (λ d. faults.declaration_faults (map declaration_of c.args.declared.now) (declaration_of d)) (λ x xs. refl)
-      c.args.declared.now c.loop-declaration.declaration-index c.declaration-item.result (omega arith) c.declaration-item.is c.loop-declaration.first c.first_of-first.result c.in_ok-fault.fault
-      (faults.first_fault (faults.each_faults (map declaration_of c.args.declared.now) (map declaration_of c.args.declared.now))) c.loop-declaration.invariant c.in_ok-fault.ensures c.first_of-first.ensures.is
+    c.args.declared.now c.loop-declaration.declaration-index c.declaration-item.result (omega arith) c.declaration-item.is c.loop-declaration.first c.first_of-first.result c.in_ok-fault.fault
+    (faults.first_fault (faults.each_faults (map declaration_of c.args.declared.now) (map declaration_of c.args.declared.now))) c.loop-declaration.invariant c.in_ok-fault.ensures c.first_of-first.ensures.is
