@@ -1,5 +1,14 @@
+ghost use Rattle.std.specs.Prelude.{◌≡◌, length};
+ghost use Rattle.flight_render.specs.Valid.{IsValidGround};
+
 use crate::{Status, flight_alone};
 use flight_base::{MemSink, MemSource};
+use flight_bundle::read_bundle;
+use flight_graph::canon_text;
+use flight_render::Ground;
+use flight_script::{nothing, scripted};
+use flight_seq::{Cost, cost, plain};
+use flight_syntax::Seen;
 use std::test::Fail;
 
 /// The words of a command line.
@@ -278,6 +287,39 @@ fn renders_bundles(rt: HostRuntime) -> Result<(), Fail> {
         ),
     ] {
         assert!(rt; renders(&rt, fuel, bundle, status, text)?);
+    }
+    Ok(())
+}
+
+/// What rendering costs with these sources settled, and its text.
+fn rendering(rt: &HostRuntime, ground: &Ground, seen: &Seen) -> Result<String, Fail>
+    requires valid { IsValidGround ground.now }
+    requires seen { length seen.now.settled ≡ length ground.now.script.sources }
+{
+    match cost(rt.alloc(), ground, seen, 1_000_000)? {
+        Cost::Within { total } => {
+            let graph = plain(rt.alloc(), ground, seen)?;
+            let text = canon_text(rt.alloc(), &graph)?;
+            Ok(format!(in rt.alloc(); "{total} {}", text.as_str())?)
+        }
+        Cost::Over => Ok(String::from_str(rt.alloc(), "over")?),
+    }
+}
+
+#[test]
+fn renders_with_sources_settled_or_not(rt: HostRuntime) -> Result<(), Fail> {
+    let bytes =
+        b"server App() = use s;\n%%script\n{\"version\":1,\"sources\":{\"s\":{\"value\":5,\"nodes\":[]}},\"settlers\":[[\"s\"]]}";
+    match read_bundle(rt.alloc(), bytes.as_slice(), false) {
+        Ok(bundle) => {
+            let all = scripted(rt.alloc(), &bundle.ground.script)?;
+            let none = nothing(rt.alloc(), &bundle.ground.script)?;
+            let settled = rendering(&rt, &bundle.ground, &all)?;
+            let waiting = rendering(&rt, &bundle.ground, &none)?;
+            assert!(rt; settled.as_str() == "2 root 5\n");
+            assert!(rt; waiting.as_str() == "0 root pending\n");
+        }
+        Err(_) => assert!(rt; false),
     }
     Ok(())
 }
