@@ -22,7 +22,7 @@ pub fn read_is_valid()
 /// Bytes are a bundle or have one first fault, and never both.
 pub fn one_bundle()
     ensures faults { (bytes : List ℕ) (wanted : Bool) (f g : BundleFault) → f ≢ fault.Memory → g ≢ fault.Memory → HasFault bytes wanted f → HasFault bytes wanted g → f ≡ g }
-    ensures apart { (bytes : List ℕ) (wanted : Bool) (ground : Ground) (reply : Option (List ℕ)) (f : BundleFault) → f ≢ fault.Memory → IsBundle bytes wanted ground reply → ¬ (HasFault bytes wanted f) }
+    ensures apart { (bytes : List ℕ) (wanted : Bool) (g : Ground) (reply : Option (List ℕ)) (f : BundleFault) → f ≢ fault.Memory → IsBundle bytes wanted g reply → ¬ (HasFault bytes wanted f) }
 {
     one_outcome();
     one_script();
