@@ -20,8 +20,6 @@ mod property_names;
 mod read;
 mod repeated;
 mod tables;
-#[cfg(test)]
-mod tests;
 
 pub use fault::ParseFault;
 pub use read::parse;
