@@ -6,25 +6,37 @@ ghost use Rattle.std.specs.Hash as hashed;
 ghost use Rattle.std.proofs.Common.{rules};
 
 use crate::memory::Memory;
+use arrayvec::ArrayString;
 use std::alloc::{AllocError, Global};
 use std::hash::{Hash, Hasher};
 use std::marker::Model;
 
+/// How many bytes of a text lie in the value itself.
+const INLINE: usize = 16;
+
+/// Where a text lies: most names and values are short, and these take no memory of their own.
+#[derive(Debug, Drop)]
+enum Held {
+    Short(ArrayString<INLINE>),
+    Long(String),
+}
+
 /// A text, which contracts see as its bytes. The bytes are UTF-8.
 #[derive(Debug, Drop)]
 pub struct Text {
-    text: String,
+    held: Held,
 }
 
 impl Model for Text {
-    ghost use Rattle.std.specs.Prelude.{List, ℕ, string_bytes};
+    ghost use Rattle.std.specs.Prelude.{List, ℕ};
+    ghost use Rattle.flight_value.specs.Held.{bytes_of};
     ghost use Rattle.std.specs.Coded.{coded_list, coded_ℕ};
 
     ghost Value = { List ℕ };
 
     ghost coded = { coded_list coded_ℕ };
 
-    ghost view = { λ t. string_bytes t.text };
+    ghost view = { λ t. bytes_of t.held };
 }
 
 impl Text {
@@ -32,23 +44,35 @@ impl Text {
     pub fn new(alloc: Global, text: &str) -> Result<Text, Memory>
         ensures { IfOk result (λ t. t ≡ text.now) }
     {
-        Ok(Text {
-            text: String::from_str(alloc, text)?,
-        })
+        let held = match ArrayString::from(text) {
+            Ok(short) => Held::Short(short),
+            Err(_) => Held::Long(String::from_str(alloc, text)?),
+        };
+        Ok(Text { held })
     }
 
-    /// A text that was built already, which is not copied.
+    /// A text that was built already. It is not copied, unless it is short.
     pub fn from_string(text: String) -> Text
         ensures { result ≡ string_bytes text }
     {
-        Text { text }
+        if let Ok(short) = ArrayString::from(text.as_str()) {
+            return Text {
+                held: Held::Short(short),
+            };
+        }
+        Text {
+            held: Held::Long(text),
+        }
     }
 
     /// The text itself.
     pub fn as_str(&self) -> &str
         ensures { result.now ≡ self.now }
     {
-        self.text.as_str()
+        match &self.held {
+            Held::Short(text) => text.as_str(),
+            Held::Long(text) => text.as_str(),
+        }
     }
 }
 
@@ -56,9 +80,11 @@ impl Clone for Text {
     ghost is_clone = { λ s t. t ≡ s };
 
     fn clone(&self) -> Result<Text, AllocError> {
-        Ok(Text {
-            text: self.text.clone()?,
-        })
+        let held = match &self.held {
+            Held::Short(text) => Held::Short(*text),
+            Held::Long(text) => Held::Long(text.clone()?),
+        };
+        Ok(Text { held })
     }
 }
 
@@ -68,7 +94,7 @@ impl PartialEq for Text {
     ghost laws = { partial_equiv_from_equiv nat_list_eq_equiv };
 
     fn eq(&self, other: &Self) -> bool {
-        self.text == other.text
+        self.as_str() == other.as_str()
     }
 }
 
