@@ -15,8 +15,11 @@ use flight_text::has_whole_numbers;
 use flight_value::{Atom, List, Text};
 use json::{Reader, Scratch};
 use serde_json::Value;
-use std::alloc::Global;
+use std::alloc::{AllocError, Global};
 use std::str;
+
+/// Up to how many places of a row are moved to where there is no room behind them.
+const FEW: usize = 64;
 
 /// The places of a row, numbered from the root, 0, as the walk visits them, or the first fault that it meets. A
 /// manner matters to model and close rows alone. JSON nests 127 levels at most (this project's limit).
@@ -111,7 +114,19 @@ fn whole(alloc: Global, manner: Manner, payload: &str) -> Result<Vec<Place>, Sto
     if reader.next().is_some() {
         return Err(Stop::NoJson);
     }
-    Ok(out)
+    Ok(tight(alloc, out)?)
+}
+
+/// The same places, with no room left behind them where they are few: most rows are small, and all are kept.
+fn tight(alloc: Global, mut places: Vec<Place>) -> Result<Vec<Place>, AllocError>
+    ensures { IfOk result (λ kept. kept.items ≡ places.items) }
+{
+    if places.len() > FEW {
+        return Ok(places);
+    }
+    let mut kept = Vec::with_capacity(alloc, places.len())?;
+    kept.append(&mut places)?;
+    Ok(kept)
 }
 
 /// A fault that is the first of a payload if that is JSON.
