@@ -8,7 +8,9 @@ use Rattle.flight_syntax.specs.declared.expr.Expr as expr
 use Rattle.flight_syntax.specs.declared.expr.Expr.{Expr, the_lemmas}
 use Rattle.flight_syntax.specs.declared.expr.PropExpr.{PropExpr}
 use Rattle.flight_syntax.specs.declared.expr.PairExpr.{PairExpr}
-use Rattle.flight_syntax.specs.Term.{term, prop, pair, terms_of, props_of, pairs_of, action_of, let_in, if_else, for_in, throw, member, index, atom, variable, client, array, object, map, set, source, promise, stream, paren, binary, element}
+use Rattle.flight_syntax.specs.declared.expr.Postfix as postfixes
+use Rattle.flight_syntax.specs.declared.expr.Postfix.{Postfix}
+use Rattle.flight_syntax.specs.Term.{term, prop, pair, terms_of, props_of, pairs_of, action_of, let_in, if_else, for_in, throw, posted, named, indexed, post, atom, variable, client, array, object, map, set, source, promise, stream, paren, binary, element}
 
 pub term-Let : (name : List ℕ) (value rest : Expr) → term (expr.Let name value rest) ≡ let_in name (term value) (term rest)
 term-Let name value rest = search (rules, the_lemmas)
@@ -22,11 +24,8 @@ term-For name over give = search (rules, the_lemmas)
 pub term-Throw : (value : Expr) → term (expr.Throw value) ≡ throw (term value)
 term-Throw value = search (rules, the_lemmas)
 
-pub term-Member : (of : Expr) (name : List ℕ) → term (expr.Member of name) ≡ member (term of) name
-term-Member of name = search (rules, the_lemmas)
-
-pub term-Index : (of at : Expr) → term (expr.Index of at) ≡ index (term of) (term at)
-term-Index of at = search (rules, the_lemmas)
+pub term-Postfixed : (of : Expr) (posts : List Postfix) → term (expr.Postfixed of posts) ≡ posted (term of) (common.map post posts)
+term-Postfixed of posts = search (rules, the_lemmas)
 
 pub term-Atom : (value : Atom) → term (expr.Atom value) ≡ atom value
 term-Atom value = search (rules, the_lemmas)
@@ -75,3 +74,9 @@ prop-value p = search (rules, the_lemmas)
 
 pub pair-value : (p : PairExpr) → pair p ≡ (term p.key, term p.value)
 pair-value p = search (rules, the_lemmas)
+
+pub post-Member : (name : List ℕ) → post (postfixes.Member name) ≡ named name
+post-Member name = search (rules, the_lemmas)
+
+pub post-Index : (at : Expr) → post (postfixes.Index at) ≡ indexed (term at)
+post-Index at = search (rules, the_lemmas)

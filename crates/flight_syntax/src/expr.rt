@@ -41,6 +41,16 @@ pub struct PairExpr {
     pub value: Expr,
 }
 
+/// A postfix.
+#[derive(Drop)]
+#[cycle(expr)]
+pub enum Postfix {
+    /// `.name`.
+    Member(Text),
+    /// `[at]`.
+    Index(Expr),
+}
+
 /// An expression.
 ///
 /// On each way back to an expression stand `Items` and `Boxed`, which contracts see as a list and as a
@@ -69,15 +79,11 @@ pub enum Expr {
     },
     /// `throw value`.
     Throw(Boxed<Expr>),
-    /// `of.name`.
-    Member {
+    /// An expression with its postfixes, in the order written. A list, so that what goes over an expression
+    /// goes down a level a nesting, and not a level a postfix.
+    Postfixed {
         of: Boxed<Expr>,
-        name: Text,
-    },
-    /// `of[at]`.
-    Index {
-        of: Boxed<Expr>,
-        at: Boxed<Expr>,
+        postfixes: Items<Postfix>,
     },
     /// A literal, with its sign.
     Atom(Atom),

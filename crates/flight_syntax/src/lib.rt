@@ -28,7 +28,7 @@ mod tests;
 mod token;
 mod word;
 
-pub use expr::{Expr, Op, PairExpr, PropExpr, Tag};
+pub use expr::{Expr, Op, PairExpr, Postfix, PropExpr, Tag};
 pub use lex::{one_reading, tokens};
 pub use name::{is_lower, is_plain_name};
 pub use program::{Declared, Program};
