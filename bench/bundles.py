@@ -6,7 +6,7 @@ usage: bench/bundles.py [--peer COMMAND] [--runs N] [--inputs FOLDER] [--markdow
 It makes the proved build first (bin/build) and writes the bundles (into FOLDER, where they stay, or into a folder that is
 removed), each shape at four sizes, the last one named here:
 
-items       one component whose value is an array of 40,000 numbers
+items       one component whose value is an array of 100,000 numbers
 components  2,000 elements of a component that makes ten nodes
 cycle       a source of 20,000 objects, each of which refers to the next, the last one to the first
 names       60,000 small expressions: sums of a variable and a number, under one `let`
@@ -58,7 +58,7 @@ def sources(count):
     return with_script("server App() = [" + ",".join(f"use s{n}" for n in range(count)) + "];", script)
 
 
-SHAPES = {items: 40_000, components: 2_000, cycle: 20_000, names: 60_000, sources: 10_000}
+SHAPES = {items: 100_000, components: 2_000, cycle: 20_000, names: 60_000, sources: 10_000}
 STEPS = (8, 4, 2, 1)
 
 

@@ -11,7 +11,7 @@ use flight_value::Memory;
 pub fn write_string(out: &mut String, text: &str) -> Result<(), Memory>
     ensures { OnOk result (string_bytes out.new ≡ string_bytes out.old ++ string_text text.now) }
 {
-    out.push_str("\"")?;
+    put(out, '"')?;
     let mut rest = text;
     while let Some(at) = first_escaped(rest.as_bytes()) {
         out.push_str(&rest[..at])?;
@@ -19,7 +19,16 @@ pub fn write_string(out: &mut String, text: &str) -> Result<(), Memory>
         rest = &rest[at + 1..];
     }
     out.push_str(rest)?;
-    out.push_str("\"")?;
+    put(out, '"')?;
+    Ok(())
+}
+
+/// Appends a character of ASCII.
+pub fn put(out: &mut String, character: char) -> Result<(), Memory>
+    requires { character < 128 }
+    ensures { OnOk result (string_bytes out.new ≡ string_bytes out.old ++ character ∷ []) }
+{
+    out.push(character)?;
     Ok(())
 }
 

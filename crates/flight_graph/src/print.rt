@@ -6,7 +6,7 @@ ghost use Rattle.flight_graph.specs.Text.{atom_text, commas, constant_text, end_
 ghost use Rattle.flight_graph.specs.Walk.{placed};
 ghost use Rattle.flight_graph.specs.Writing.{comma_before};
 
-use crate::escape::write_string;
+use crate::escape::{put, write_string};
 use crate::rename::{node_in, place_of};
 use crate::walk::visit_all;
 use flight_value::{Atom, Constant, End, Flow, Graph, Memory, Node, Pair, Prop, Slot, Text};
@@ -25,7 +25,7 @@ pub fn canon_text(alloc: Global, graph: &Graph) -> Result<Text, Memory>
     let mut out = String::new(alloc);
     out.push_str("root ")?;
     write_slot(&mut out, places, &graph.root)?;
-    out.push_str("\n")?;
+    put(&mut out, '\n')?;
     write_lines(&mut out, places, nodes, walk.order.as_slice())?;
     Ok(Text::from_string(out))
 }
@@ -54,11 +54,11 @@ fn write_line(
 ) -> Result<(), Memory>
     ensures { OnOk result (string_bytes out.new ≡ string_bytes out.old ++ line_text place (map_slots (placed places.now) node.now)) }
 {
-    out.push_str("#")?;
+    put(out, '#')?;
     write_integer(out, place)?;
-    out.push_str(" ")?;
+    put(out, ' ')?;
     write_node(out, places, node)?;
-    out.push_str("\n")?;
+    put(out, '\n')?;
     Ok(())
 }
 
@@ -77,13 +77,13 @@ fn write_node(out: &mut String, places: &[Option<u32>], node: &Node) -> Result<(
         }
         Node::Stream { flow, items, end } => {
             write_items(out, places, flow_word(*flow), items.as_slice())?;
-            out.push_str(" ")?;
+            put(out, ' ')?;
             write_end(out, places, end)
         }
         Node::Action { id, bound } => {
             out.push_str("action ")?;
             write_string(out, id.as_str())?;
-            out.push_str(" ")?;
+            put(out, ' ')?;
             write_slot(out, places, bound)
         }
     }
@@ -100,9 +100,9 @@ fn write_element(
 {
     out.push_str("element ")?;
     write_slot(out, places, tag)?;
-    out.push_str(" ")?;
+    put(out, ' ')?;
     write_slot(out, places, key)?;
-    out.push_str(" ")?;
+    put(out, ' ')?;
     write_slot(out, places, props)
 }
 
@@ -147,7 +147,7 @@ fn write_items(
     out.push_str(word)?;
     out.push_str(" [")?;
     write_slots(out, places, items)?;
-    out.push_str("]")?;
+    put(out, ']')?;
     Ok(())
 }
 
@@ -169,7 +169,7 @@ fn write_props(out: &mut String, places: &[Option<u32>], props: &[Prop]) -> Resu
         write_comma(out, at)?;
         write_prop(out, places, prop)?;
     }
-    out.push_str("}")?;
+    put(out, '}')?;
     Ok(())
 }
 
@@ -177,7 +177,7 @@ fn write_prop(out: &mut String, places: &[Option<u32>], prop: &Prop) -> Result<(
     ensures { OnOk result (string_bytes out.new ≡ string_bytes out.old ++ prop_text (map_prop (placed places.now) prop.now)) }
 {
     write_string(out, prop.name.as_str())?;
-    out.push_str(":")?;
+    put(out, ':')?;
     write_slot(out, places, &prop.slot)
 }
 
@@ -189,18 +189,18 @@ fn write_pairs(out: &mut String, places: &[Option<u32>], pairs: &[Pair]) -> Resu
         write_comma(out, at)?;
         write_pair(out, places, pair)?;
     }
-    out.push_str("]")?;
+    put(out, ']')?;
     Ok(())
 }
 
 fn write_pair(out: &mut String, places: &[Option<u32>], pair: &Pair) -> Result<(), Memory>
     ensures { OnOk result (string_bytes out.new ≡ string_bytes out.old ++ pair_text (map_pair (placed places.now) pair.now)) }
 {
-    out.push_str("[")?;
+    put(out, '[')?;
     write_slot(out, places, &pair.key)?;
-    out.push_str(",")?;
+    put(out, ',')?;
     write_slot(out, places, &pair.value)?;
-    out.push_str("]")?;
+    put(out, ']')?;
     Ok(())
 }
 
@@ -209,7 +209,7 @@ fn write_comma(out: &mut String, at: usize) -> Result<(), Memory>
     ensures { OnOk result (string_bytes out.new ≡ string_bytes out.old ++ comma_before at) }
 {
     if at > 0 {
-        out.push_str(",")?;
+        put(out, ',')?;
     }
     Ok(())
 }
@@ -220,7 +220,7 @@ fn write_slot(out: &mut String, places: &[Option<u32>], slot: &Slot) -> Result<(
     match slot {
         Slot::Atom(atom) => write_atom(out, atom),
         Slot::Node(node) => {
-            out.push_str("#")?;
+            put(out, '#')?;
             write_integer(out, place_of(places, *node))
         }
     }
@@ -279,7 +279,7 @@ fn write_big(out: &mut String, n: i128) -> Result<(), Memory>
     ensures { OnOk result (string_bytes out.new ≡ string_bytes out.old ++ signed_decimal n ++ codes "n") }
 {
     write_integer(out, n)?;
-    out.push_str("n")?;
+    put(out, 'n')?;
     Ok(())
 }
 

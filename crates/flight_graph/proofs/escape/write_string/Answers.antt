@@ -16,9 +16,9 @@ loop-at-preserved c =
     let rest = c.loop-at.rest.now in
     let at = c.in-Some.at in
     let found : IsFound rest at = subst (λ (bytes : List ℕ). IsFound bytes at) c.as_bytes.ensures.value c.in-Some.ensures in
-    let run = c.in_ok-push_str-2.ensures.bytes ∙ ap (λ x. string_bytes c.loop-at.out ++ x) (c.range.ensures.value ∙ front_range rest at) in
-    let escape = c.in_ok-write_escaped.ensures ∙ ap (λ (bytes : List ℕ). string_bytes c.push_str-in-Some.new.self ++ escaped (get_or bytes at 0)) c.as_bytes-in-Some.ensures.value in
-    let all = run_written (string_bytes c.loop-at.out) (string_bytes c.push_str-in-Some.new.self) (string_bytes c.write_escaped.new.out) (string_bytes c.push_str.new.self) c.args.text.now rest at found.0 found.2 c.loop-at.invariant.so_far run escape in
+    let run = c.in_ok-push_str.ensures.bytes ∙ ap (λ x. string_bytes c.loop-at.out ++ x) (c.range.ensures.value ∙ front_range rest at) in
+    let escape = c.in_ok-write_escaped.ensures ∙ ap (λ (bytes : List ℕ). string_bytes c.push_str.new.self ++ escaped (get_or bytes at 0)) c.as_bytes-in-Some.ensures.value in
+    let all = run_written (string_bytes c.loop-at.out) (string_bytes c.push_str.new.self) (string_bytes c.write_escaped.new.out) (string_bytes c.put.new.out) c.args.text.now rest at found.0 found.2 c.loop-at.invariant.so_far run escape in
     record {
       utf8 = c.range_from-rest.utf8;
       so_far = ap (λ x. string_bytes c.write_escaped.new.out ++ flat_map escaped x) c.range_from-rest.ensures.value ∙ all;
@@ -27,5 +27,5 @@ loop-at-preserved c =
 pub returns : goal.returns
 returns c =
     let plain = subst (λ (bytes : List ℕ). All (λ b. is_escaped b ≡ false) bytes) c.as_bytes.ensures.value c.in_default.ensures in
-    let run = all_written (string_bytes c.loop-at.out) (string_bytes c.push_str-2.new.self) (string_bytes c.push_str.new.self) c.args.text.now c.loop-at.rest.now plain c.loop-at.invariant.so_far c.in_ok-push_str-3.ensures.bytes in
-    string_written (string_bytes c.args.out.now) (string_bytes c.push_str.new.self) (string_bytes c.push_str-2.new.self) (string_bytes c.push_str-3.new.self) c.args.text.now c.in_ok-push_str.ensures.bytes run c.in_ok-push_str-4.ensures.bytes
+    let run = all_written (string_bytes c.loop-at.out) (string_bytes c.push_str-2.new.self) (string_bytes c.put.new.out) c.args.text.now c.loop-at.rest.now plain c.loop-at.invariant.so_far c.in_ok-push_str-2.ensures.bytes in
+    string_written (string_bytes c.args.out.now) (string_bytes c.put.new.out) (string_bytes c.push_str-2.new.self) (string_bytes c.put-2.new.out) c.args.text.now c.in_ok-put.ensures run c.in_ok-put-2.ensures

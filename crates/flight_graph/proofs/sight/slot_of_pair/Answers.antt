@@ -1,4 +1,4 @@
-use Rattle.std.proofs.Common.{◌≡◌, ◌<◌, ◌≤◌, ◌/◌, ◌%◌, ◌*◌, length, get_or, sym, arith}
+use Rattle.std.proofs.Common.{◌/◌, length, sym, arith}
 use borrow.Author.Tests.{ltb-false}
 use Rattle.flight_graph.proofs.Slots.{get-key, get-value, get-past}
 use Rattle.flight_graph.proofs.sight.slot_of_pair.Goals as goal
