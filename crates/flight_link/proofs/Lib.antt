@@ -1,4 +1,5 @@
 pub mod Steps
+pub mod Searched
 pub mod Turns
 pub mod PlainRows
 pub mod Stepping
