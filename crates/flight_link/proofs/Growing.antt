@@ -1,7 +1,7 @@
 -- Rows and nodes come behind the old ones.
 use Rattle.std.proofs.Common.{◌≡◌, ◌≢◌, ℕ, zero, suc, ◌+◌, ◌<◌, nat_eq, cond, true, false, List, [], ◌∷◌, ◌++◌, length, Option, Some, None, option_and_then, slice_get, refl, sym, ◌∙◌, ap, subst, arith, inl, inr, ◌⊎◌, length-append, append_assoc, append-nil}
 use Rattle.std.specs.Prelude.{All}
-use Rattle.std.specs.HashMap.{get}
+use Rattle.flight_link.specs.Known.{known_of}
 use Rattle.std.proofs.lemmas.Bool.Decides.{eqb_tells}
 use Rattle.std.proofs.lemmas.Option.{none-some, same_Some, slice_get_within}
 use Rattle.flight_place.specs.declared.place.Place.{Place}
@@ -15,7 +15,7 @@ use Rattle.flight_link.specs.declared.node.Start.{Start}
 use Rattle.flight_link.specs.declared.node.Start.TheVariants.{Id, Place as AtPlace}
 use Rattle.flight_link.specs.declared.node.State.{State}
 use Rattle.flight_link.specs.declared.node.State.TheVariants.{Absent, Ended, Lost, Behind}
-use Rattle.flight_link.specs.declared.table.Known.{Known}
+use Rattle.flight_link.specs.declared.ids.Known.{Known}
 use Rattle.flight_link.specs.declared.table.Table.{Table}
 use Rattle.flight_link.specs.Nodes.{IsPlain, IsFine, place_in, spot_of, followed, ComeBy, Come, IsThere, Reaches, with_path, last_names, stand, names_in, names_of, Gets, HasBegun, HasNoRow, IsSound, AreSound, IsNodeAt, IsIndexed, IsStart, AreStarts, IsItsNode, IsRowOf, IsKnown, IsTable, AreStates, has_ended, IsQuiet, AreQuiet, node_in}
 use Rattle.flight_link.specs.declared.fresh.Fresh.{Fresh}
@@ -185,8 +185,8 @@ pub record IsNamedNow (t u : Table) (id : ℕ) (k : Known) : Type 0 where
   pub rows : u.rows.items ≡ t.rows.items
   pub index : u.index.items ≡ t.index.items
   pub starts : u.starts.items ≡ t.starts.items ++ Id id ∷ []
-  pub none : get nat_eq t.known id ≡ None
-  pub updates : (q : ℕ) → get nat_eq u.known q ≡ cond (nat_eq id q) (Some k) (get nat_eq t.known q)
+  pub none : known_of t.known id ≡ None
+  pub updates : (q : ℕ) → known_of u.known q ≡ cond (nat_eq id q) (Some k) (known_of t.known q)
   pub node : k.node ≡ length t.starts.items
   pub row : k.row ≡ None
 
@@ -197,30 +197,30 @@ named_starts rows starts id are = λ n start e. go start (push_get starts (Id id
     go start (inl h) are = are start h
     go start (inr p) are = subst (IsStart rows) p.1 tt
 
-no_row : (t : Table) (id : ℕ) → IsTable t → get nat_eq t.known id ≡ None → rows_of id t.rows.items ≡ []
+no_row : (t : Table) (id : ℕ) → IsTable t → known_of t.known id ≡ None → rows_of id t.rows.items ≡ []
 no_row t id table e = subst (IsKnown t.rows.items t.starts.items id) e (table.known id)
 
-named_known : (t u : Table) (id : ℕ) (k : Known) → IsTable t → IsNamedNow t u id k → (q : ℕ) → IsKnown t.rows.items (t.starts.items ++ Id id ∷ []) q (get nat_eq u.known q)
+named_known : (t u : Table) (id : ℕ) (k : Known) → IsTable t → IsNamedNow t u id k → (q : ℕ) → IsKnown t.rows.items (t.starts.items ++ Id id ∷ []) q (known_of u.known q)
 named_known t u id k table is q = go (eqb_tells id q)
   where
     starts : List Start
     starts = t.starts.items ++ Id id ∷ []
 
-    go : ((nat_eq id q ≡ true) × (id ≡ q)) ⊎ ((nat_eq id q ≡ false) × (id ≢ q)) → IsKnown t.rows.items (t.starts.items ++ Id id ∷ []) q (get nat_eq u.known q)
-    go (inl p) = subst (IsKnown t.rows.items (t.starts.items ++ Id id ∷ []) q) (sym (is.updates q ∙ ap (λ b. cond b (Some k) (get nat_eq t.known q)) p.0)) (
+    go : ((nat_eq id q ≡ true) × (id ≡ q)) ⊎ ((nat_eq id q ≡ false) × (id ≢ q)) → IsKnown t.rows.items (t.starts.items ++ Id id ∷ []) q (known_of u.known q)
+    go (inl p) = subst (IsKnown t.rows.items (t.starts.items ++ Id id ∷ []) q) (sym (is.updates q ∙ ap (λ b. cond b (Some k) (known_of t.known q)) p.0)) (
       subst (λ i. IsNodeAt (t.starts.items ++ Id id ∷ []) k.node (Id i)) p.1 (ap (slice_get (t.starts.items ++ Id id ∷ [])) is.node ∙ push_at t.starts.items (Id id)),
       subst (IsRowOf t.rows.items q) (sym is.row) (subst (λ i. rows_of i t.rows.items ≡ []) p.1 (no_row t id table is.none)),
     )
-    go (inr p) = subst (IsKnown t.rows.items (t.starts.items ++ Id id ∷ []) q) (sym (is.updates q ∙ ap (λ b. cond b (Some k) (get nat_eq t.known q)) p.0))
-        (known_starts t.rows.items t.starts.items (Id id ∷ []) q (get nat_eq t.known q) (table.known q))
+    go (inr p) = subst (IsKnown t.rows.items (t.starts.items ++ Id id ∷ []) q) (sym (is.updates q ∙ ap (λ b. cond b (Some k) (known_of t.known q)) p.0))
+        (known_starts t.rows.items t.starts.items (Id id ∷ []) q (known_of t.known q) (table.known q))
 
-named_ids : (t u : Table) (id : ℕ) (k : Known) → IsTable t → IsNamedNow t u id k → (n other : ℕ) → IsNodeAt u.starts.items n (Id other) → IsItsNode n (get nat_eq u.known other)
+named_ids : (t u : Table) (id : ℕ) (k : Known) → IsTable t → IsNamedNow t u id k → (n other : ℕ) → IsNodeAt u.starts.items n (Id other) → IsItsNode n (known_of u.known other)
 named_ids t u id k table is n other e = subst (IsItsNode n) (sym (is.updates other)) (go (push_get t.starts.items (Id id) n (Id other) (sym (ap (λ x. slice_get x n) is.starts) ∙ e)) (eqb_tells id other))
   where
-    go : (slice_get t.starts.items n ≡ Some (Id other)) ⊎ ((n ≡ length t.starts.items) × (Id id ≡ Id other)) → ((nat_eq id other ≡ true) × (id ≡ other)) ⊎ ((nat_eq id other ≡ false) × (id ≢ other)) → IsItsNode n (cond (nat_eq id other) (Some k) (get nat_eq t.known other))
-    go (inl h) (inl p) = absurd (subst (IsItsNode n) is.none (subst (λ i. IsItsNode n (get nat_eq t.known i)) (sym p.1) (table.ids n other h)))
-    go (inl h) (inr p) = subst (λ b. IsItsNode n (cond b (Some k) (get nat_eq t.known other))) (sym p.0) (table.ids n other h)
-    go (inr q) (inl p) = subst (λ b. IsItsNode n (cond b (Some k) (get nat_eq t.known other))) (sym p.0) (is.node ∙ sym q.0)
+    go : (slice_get t.starts.items n ≡ Some (Id other)) ⊎ ((n ≡ length t.starts.items) × (Id id ≡ Id other)) → ((nat_eq id other ≡ true) × (id ≡ other)) ⊎ ((nat_eq id other ≡ false) × (id ≢ other)) → IsItsNode n (cond (nat_eq id other) (Some k) (known_of t.known other))
+    go (inl h) (inl p) = absurd (subst (IsItsNode n) is.none (subst (λ i. IsItsNode n (known_of t.known i)) (sym p.1) (table.ids n other h)))
+    go (inl h) (inr p) = subst (λ b. IsItsNode n (cond b (Some k) (known_of t.known other))) (sym p.0) (table.ids n other h)
+    go (inr q) (inl p) = subst (λ b. IsItsNode n (cond b (Some k) (known_of t.known other))) (sym p.0) (is.node ∙ sym q.0)
     go (inr q) (inr p) = let same : id ≡ other = cc in absurd (p.1 same)
 
 pub named_table : (t u : Table) (id : ℕ) (k : Known) → IsTable t → IsNamedNow t u id k → IsTable u
@@ -233,8 +233,8 @@ named_table t u id k table is = record {
       (subst (λ x. IsIndexed x s (followed at) (node_in t.index.items s)) (sym is.starts)
       (indexed_starts t.starts.items (Id id ∷ []) s (followed at) (node_in t.index.items s) (table.indexed s at (ap (λ (rows : List PlacedRow). place_in rows s) (sym is.rows) ∙ e))));
   known = λ q.
-      subst (λ (rows : List PlacedRow). IsKnown rows u.starts.items q (get nat_eq u.known q)) (sym is.rows)
-      (subst (λ x. IsKnown t.rows.items x q (get nat_eq u.known q)) (sym is.starts) (named_known t u id k table is q));
+      subst (λ (rows : List PlacedRow). IsKnown rows u.starts.items q (known_of u.known q)) (sym is.rows)
+      (subst (λ x. IsKnown t.rows.items x q (known_of u.known q)) (sym is.starts) (named_known t u id k table is q));
   ids = named_ids t u id k table is;
   one_each = ap length is.index ∙ (table.one_each ∙ sym (ap length is.rows));
 }

@@ -5,6 +5,7 @@ pub mod PlainRows
 pub mod Stepping
 pub mod Advancing
 pub mod Settling
+pub mod Knowing
 pub mod Growing
 pub mod RowComes
 pub mod Standing

@@ -114,7 +114,7 @@ impl Table {
         requires { IsTable self.now }
         ensures { IfSome result (λ s. made_at (spot_of self.now.rows.items s) ≡ identity_of (NodeKey.Made id place)) }
     {
-        match self.known.get(&id) {
+        match self.known.get(id) {
             Some(known) => match known.row {
                 Some(row) => Some(Spot { row, place }),
                 None => None,

@@ -50,7 +50,7 @@ impl Table {
             return Ok(());
         };
         // Each id that is named has a node by now.
-        let Some(known) = self.known.get(&id) else {
+        let Some(known) = self.known.get(id) else {
             return Err(Memory);
         };
         let Ok(number) = u32::try_from(self.starts.len().saturating_add(fresh.starts.len())) else {

@@ -13,6 +13,7 @@ ghost use Rattle.flight_link.specs.Origins.{AreOrigins};
 use crate::backlog::Backlog;
 use crate::fault::{LinkFault, LinkKind};
 use crate::found::{Found, Seen};
+use crate::ids::Ids;
 use crate::mention::Bases;
 use crate::node::State;
 use crate::room::put_last;
@@ -22,7 +23,6 @@ use flight_row::RowKind;
 use flight_text::Ref;
 use flight_value::{Graph, List, Memory};
 use std::alloc::Global;
-use std::collections::HashMap;
 use std::marker::Model;
 
 /// The rows of a stream or of a reply, linked. Contracts see them as the list of the rows that came.
@@ -63,7 +63,7 @@ impl Links {
                 rows: Vec::new(alloc),
                 starts: Vec::new(alloc),
                 index: Vec::new(alloc),
-                known: HashMap::new(alloc),
+                known: Ids::new(alloc),
             },
             states: Vec::new(alloc),
             backlog: Backlog {

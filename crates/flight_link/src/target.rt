@@ -50,7 +50,7 @@ impl Table {
         requires { AreLinked self.now states.now }
         ensures { IsTargetOf self.now.rows.items (value_of id) result }
     {
-        match self.known.get(&id) {
+        match self.known.get(id) {
             Some(known) => self.target_behind(states, known.node),
             None => Target::Awaits(id),
         }

@@ -151,7 +151,7 @@ impl Table {
         requires { IsTable self.now }
         ensures { IsTrue result ↔ ((r : Reference) × (reference_of self.now.rows.items id ≡ Some r)) }
     {
-        match self.known.get(&id) {
+        match self.known.get(id) {
             Some(known) => match known.row {
                 Some(row) => self.is_reference(row),
                 None => false,

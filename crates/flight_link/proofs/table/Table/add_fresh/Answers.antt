@@ -15,9 +15,9 @@ pub returns : goal.returns
 returns c = λ places are last.
     let g : Fresh = record { index = c.push-2.new.self; starts = c.push-3.new.self; states = c.push-4.new.self } in
     let some : followed c.args.place.now ≡ Some (c.in-Some.id, c.in-Some.names.now) = search rules in
-    let known = subst (IsKnown c.args.self.now.rows.items c.args.self.now.starts.items c.in-Some.id) (sym c.in-Some-get.ensures.value) (c.requires.known c.in-Some.id) in
+    let known = subst (IsKnown c.args.self.now.rows.items c.args.self.now.starts.items c.in-Some.id) (sym c.in-Some-get.ensures) (c.requires.known c.in-Some.id) in
     let number : c.in-Ok.number ≡ length c.args.self.now.starts.items + length c.args.fresh.now.starts.items = search rules in
-    fresh_some c.args.self.now.starts.items c.args.spot.row places c.args.place.now c.args.fresh.now g (c.in-Some.id, c.in-Some.names.now) c.in-Ok.number c.in-Some-get.known.now.node are some known.0 number
+    fresh_some c.args.self.now.starts.items c.args.spot.row places c.args.place.now c.args.fresh.now g (c.in-Some.id, c.in-Some.names.now) c.in-Ok.number c.in-Some-get.known.node are some known.0 number
     c.in_ok-push-2.ensures.items
     (c.in_ok-push-3.ensures.items ∙ ap (λ n. c.args.fresh.now.starts.items ++ AtPlace (record { row = c.args.spot.row; place = n }) ∷ []) last)
     (search rules)
