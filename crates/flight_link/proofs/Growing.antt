@@ -1,5 +1,5 @@
 -- Rows and nodes come behind the old ones.
-use Rattle.std.proofs.Common.{◌≡◌, ◌≢◌, ℕ, zero, suc, ◌+◌, ◌<◌, nat_eq, cond, true, false, List, [], ◌∷◌, ◌++◌, length, Option, Some, None, option_and_then, slice_get, refl, sym, ◌∙◌, ap, subst, arith, inl, inr, ◌⊎◌, length-append, append_assoc, append-nil}
+use Rattle.std.proofs.Common.{◌≡◌, ◌≢◌, ℕ, zero, suc, ◌+◌, ◌<◌, ◌≤◌, nat_eq, cond, true, false, List, [], ◌∷◌, ◌++◌, length, Option, Some, None, option_and_then, slice_get, refl, sym, ◌∙◌, ap, subst, arith, inl, inr, ◌⊎◌, length-append, append_assoc, append-nil}
 use Rattle.std.specs.Prelude.{All}
 use Rattle.flight_link.specs.Known.{known_of}
 use Rattle.std.proofs.lemmas.Bool.Decides.{eqb_tells}
@@ -276,34 +276,34 @@ keeps_node t u n start k h = ap (λ x. slice_get x n) k.starts ∙ slice_get-fro
 
 -- ---- the nodes of a row that is still to come
 
-pub fresh_none : (starts : List Start) (row : ℕ) (places : List Place) (at : Place) (f g : Fresh) → AreFresh starts row places f → followed at ≡ None → g.index.items ≡ f.index.items ++ None ∷ [] → g.starts.items ≡ f.starts.items → g.states.items ≡ f.states.items → AreFresh starts row (places ++ at ∷ []) g
-fresh_none starts row places at f g are none is_index is_starts is_states = record {
-  one_each = ap length is_index ∙ (length-append f.index.items (None ∷ []) ∙ (ap (λ n. n + 1) are.one_each ∙ sym (length-append places (at ∷ []))));
-  same_count = ap length is_states ∙ (are.same_count ∙ sym (ap length is_starts));
-  placed = λ n p e.
-      subst (λ x. IsFreshAt starts x (record { row = row; place = n }) (followed p) (number_in g.index.items n)) (sym is_starts)
-      (subst (λ x. IsFreshAt starts f.starts.items (record { row = row; place = n }) (followed p) (number_in x n)) (sym is_index)
-      (go n p (push_get places at n p e)));
-  nodes = λ j start state e h. node_more j start state (are.nodes j start state (sym (ap (λ x. slice_get x j) is_starts) ∙ e) (sym (ap (λ x. slice_get x j) is_states) ∙ h));
+-- past its index a row has no nodes
+past_index : (index : List (Option ℕ)) (n : ℕ) → length index ≤ n → number_in index n ≡ None
+past_index [] n w = refl
+past_index (o ∷ index) zero w = let no : ⊥ = omega (arith, w) in absurd no
+past_index (o ∷ index) (suc n) w = past_index index n (omega (arith, w))
+
+pub fresh_none : (starts : List Start) (row : ℕ) (places : List Place) (at : Place) (f : Fresh) → AreFresh starts row places f → followed at ≡ None → AreFresh starts row (places ++ at ∷ []) f
+fresh_none starts row places at f are none = record {
+  few = let e = length-append places (at ∷ []) in let few = are.few in omega (arith, e, few);
+  same_count = are.same_count;
+  placed = λ n p e. go n p (push_get places at n p e);
+  nodes = λ j start state e h. node_more j start state (are.nodes j start state e h);
 }
   where
     node_more : (j : ℕ) (start : Start) (state : State) → IsFreshNode starts row places start state → IsFreshNode starts row (places ++ at ∷ []) start state
     node_more j start state h = record { number = h.number; is_start = h.is_start; at = h.at; is_place = slice_get-front places (at ∷ []) h.number h.at h.is_place; way = h.way; is_way = h.is_way; node = h.node; is_node = h.is_node; is_state = h.is_state }
 
-    go : (n : ℕ) (p : Place) → (slice_get places n ≡ Some p) ⊎ ((n ≡ length places) × (at ≡ p)) → IsFreshAt starts f.starts.items (record { row = row; place = n }) (followed p) (number_in (f.index.items ++ None ∷ []) n)
-    go n p (inl h) =
-        let w = slice_get_within places n p h in
-        let w' : n < length f.index.items = omega (arith, w, are.one_each) in
-        subst (λ x. IsFreshAt starts f.starts.items (record { row = row; place = n }) (followed p) x) (sym (ap (option_and_then (λ o. o)) (get_before f.index.items (None ∷ []) n w'))) (are.placed n p h)
+    go : (n : ℕ) (p : Place) → (slice_get places n ≡ Some p) ⊎ ((n ≡ length places) × (at ≡ p)) → IsFreshAt starts f.starts.items (record { row = row; place = n }) (followed p) (number_in f.index.items n)
+    go n p (inl h) = are.placed n p h
     go n p (inr q) =
         let is_none : followed p ≡ None = ap followed (sym q.1) ∙ none in
-        let is_number : number_in (f.index.items ++ None ∷ []) n ≡ None = ap (option_and_then (λ o. o)) (ap (slice_get (f.index.items ++ None ∷ [])) (q.0 ∙ sym are.one_each) ∙ push_at f.index.items None) in
-        subst (λ x. IsFreshAt starts f.starts.items (record { row = row; place = n }) x (number_in (f.index.items ++ None ∷ []) n)) (sym is_none)
+        let is_number : number_in f.index.items n ≡ None = past_index f.index.items n (let few = are.few in let last = q.0 in omega (arith, few, last)) in
+        subst (λ x. IsFreshAt starts f.starts.items (record { row = row; place = n }) x (number_in f.index.items n)) (sym is_none)
         (subst (λ x. IsFreshAt starts f.starts.items (record { row = row; place = n }) None x) (sym is_number) tt)
 
-pub fresh_some : (starts : List Start) (row : ℕ) (places : List Place) (at : Place) (f g : Fresh) (way : ℕ × Path) (number node : ℕ) → AreFresh starts row places f → followed at ≡ Some way → IsNodeAt starts node (Id way.0) → number ≡ length starts + length f.starts.items → g.index.items ≡ f.index.items ++ Some number ∷ [] → g.starts.items ≡ f.starts.items ++ AtPlace (record { row = row; place = length places }) ∷ [] → g.states.items ≡ f.states.items ++ Behind node (length way.1) ∷ [] → AreFresh starts row (places ++ at ∷ []) g
-fresh_some starts row places at f g way number node are some is_node is_number is_index is_starts is_states = record {
-  one_each = ap length is_index ∙ (length-append f.index.items (Some number ∷ []) ∙ (ap (λ n. n + 1) are.one_each ∙ sym (length-append places (at ∷ []))));
+pub fresh_some : (starts : List Start) (row : ℕ) (places : List Place) (at : Place) (f g : Fresh) (index : List (Option ℕ)) (way : ℕ × Path) (number node : ℕ) → AreFresh starts row places f → followed at ≡ Some way → IsNodeAt starts node (Id way.0) → number ≡ length starts + length f.starts.items → ((n : ℕ) → number_in index n ≡ number_in f.index.items n) → length index ≡ length places → g.index.items ≡ index ++ Some number ∷ [] → g.starts.items ≡ f.starts.items ++ AtPlace (record { row = row; place = length places }) ∷ [] → g.states.items ≡ f.states.items ++ Behind node (length way.1) ∷ [] → AreFresh starts row (places ++ at ∷ []) g
+fresh_some starts row places at f g index way number node are some is_node is_number same long is_index is_starts is_states = record {
+  few = let e = ap length is_index ∙ length-append index (Some number ∷ []) in let p = length-append places (at ∷ []) in omega (arith, e, p, long);
   same_count = ap length is_states ∙ (length-append f.states.items (Behind node (length way.1) ∷ []) ∙ (ap (λ n. n + 1) are.same_count ∙ (sym (length-append f.starts.items (AtPlace (record { row = row; place = length places }) ∷ [])) ∙ sym (ap length is_starts))));
   placed = λ n p e.
       subst (λ x. IsFreshAt starts x (record { row = row; place = n }) (followed p) (number_in g.index.items n)) (sym is_starts)
@@ -327,15 +327,15 @@ fresh_some starts row places at f g way number node are some is_node is_number i
     more_at s (Some w) None h = h
     more_at s None (Some n) h = h
 
-    go : (n : ℕ) (p : Place) → (slice_get places n ≡ Some p) ⊎ ((n ≡ length places) × (at ≡ p)) → IsFreshAt starts (f.starts.items ++ AtPlace (record { row = row; place = length places }) ∷ []) (record { row = row; place = n }) (followed p) (number_in (f.index.items ++ Some number ∷ []) n)
+    go : (n : ℕ) (p : Place) → (slice_get places n ≡ Some p) ⊎ ((n ≡ length places) × (at ≡ p)) → IsFreshAt starts (f.starts.items ++ AtPlace (record { row = row; place = length places }) ∷ []) (record { row = row; place = n }) (followed p) (number_in (index ++ Some number ∷ []) n)
     go n p (inl h) =
         let w = slice_get_within places n p h in
-        let w' : n < length f.index.items = omega (arith, w, are.one_each) in
-        subst (λ x. IsFreshAt starts (f.starts.items ++ AtPlace (record { row = row; place = length places }) ∷ []) (record { row = row; place = n }) (followed p) x) (sym (ap (option_and_then (λ o. o)) (get_before f.index.items (Some number ∷ []) n w')))
+        let w' : n < length index = omega (arith, w, long) in
+        subst (λ x. IsFreshAt starts (f.starts.items ++ AtPlace (record { row = row; place = length places }) ∷ []) (record { row = row; place = n }) (followed p) x) (sym (ap (option_and_then (λ o. o)) (get_before index (Some number ∷ []) n w') ∙ same n))
         (more_at (record { row = row; place = n }) (followed p) (number_in f.index.items n) (are.placed n p h))
     go n p (inr q) =
         let is_some : followed p ≡ Some way = ap followed (sym q.1) ∙ some in
-        let is_here : number_in (f.index.items ++ Some number ∷ []) n ≡ Some number = ap (option_and_then (λ o. o)) (ap (slice_get (f.index.items ++ Some number ∷ [])) (q.0 ∙ sym are.one_each) ∙ push_at f.index.items (Some number)) in
-        subst (λ x. IsFreshAt starts (f.starts.items ++ AtPlace (record { row = row; place = length places }) ∷ []) (record { row = row; place = n }) x (number_in (f.index.items ++ Some number ∷ []) n)) (sym is_some)
+        let is_here : number_in (index ++ Some number ∷ []) n ≡ Some number = ap (option_and_then (λ o. o)) (ap (slice_get (index ++ Some number ∷ [])) (q.0 ∙ sym long) ∙ push_at index (Some number)) in
+        subst (λ x. IsFreshAt starts (f.starts.items ++ AtPlace (record { row = row; place = length places }) ∷ []) (record { row = row; place = n }) x (number_in (index ++ Some number ∷ []) n)) (sym is_some)
         (subst (λ x. IsFreshAt starts (f.starts.items ++ AtPlace (record { row = row; place = length places }) ∷ []) (record { row = row; place = n }) (Some way) x) (sym is_here)
         (length f.starts.items, is_number, push_at f.starts.items (AtPlace (record { row = row; place = length places })) ∙ ap (λ m. Some (AtPlace (record { row = row; place = m }))) (sym q.0)))

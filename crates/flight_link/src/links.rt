@@ -11,6 +11,7 @@ ghost use Rattle.flight_link.specs.Finding.{IsFound};
 ghost use Rattle.flight_link.specs.Origins.{AreOrigins};
 
 use crate::backlog::Backlog;
+use crate::draw::Whole;
 use crate::fault::{LinkFault, LinkKind};
 use crate::found::{Found, Seen};
 use crate::ids::Ids;
@@ -113,7 +114,14 @@ impl Links {
     pub fn graph(&self, alloc: Global) -> Result<Graph, Memory>
         ensures { IfOk result (λ g. IsValid g × DrawOneGraph (of_graph g) (meaning self.now)) }
     {
-        self.table.graph(self.states.as_slice(), alloc)
+        let whole = Whole {
+            states: self.states.as_slice(),
+            bases: Bases {
+                before: self.before.as_slice(),
+                total: self.total,
+            },
+        };
+        self.table.graph(whole, alloc)
     }
 
     /// For each node of the canon of [`Links::graph`], in order, the id of the row that holds it: of the row of its
@@ -121,7 +129,14 @@ impl Links {
     pub fn origins(&self, alloc: Global) -> Result<List<u32>, Memory>
         ensures { IfOk result (AreOrigins self.now) }
     {
-        self.table.origins(self.states.as_slice(), alloc)
+        let whole = Whole {
+            states: self.states.as_slice(),
+            bases: Bases {
+                before: self.before.as_slice(),
+                total: self.total,
+            },
+        };
+        self.table.origins(whole, alloc)
     }
 
     /// A fact alone: no row was refused.

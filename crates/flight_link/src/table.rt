@@ -15,7 +15,7 @@ pub struct Table {
     pub rows: Vec<PlacedRow>,
     /// Whose walks the nodes are.
     pub starts: Vec<Start>,
-    /// For each row and each place in it the node of that place, if it is followed.
+    /// For each row and each place in it the node of that place, if it is followed. A list may end before the places do.
     pub index: Vec<List<Option<u32>>>,
     pub known: Ids,
 }

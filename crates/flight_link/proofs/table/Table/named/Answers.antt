@@ -1,5 +1,4 @@
-use Rattle.std.proofs.Common.{◌≡◌, ◌∙◌, sym, ap, refl, None, List, ◌++◌, ◌∷◌, [], length, rules, nat_eq, slice_get}
-use Rattle.std.specs.Prelude.{option_copied}
+use Rattle.std.proofs.Common.{◌≡◌, ◌∙◌, sym, ap, refl, None, List, ◌++◌, ◌∷◌, [], length, rules, slice_get}
 use Rattle.flight_link.specs.Known.{known_of}
 use Rattle.flight_link.specs.declared.ids.Known.{Known}
 use Rattle.flight_link.specs.declared.table.Table.{Table}
