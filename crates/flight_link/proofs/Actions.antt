@@ -8,24 +8,18 @@ use Rattle.flight_value.specs.Store.{Shape}
 use Rattle.flight_place.specs.declared.place.Place.TheVariants as place
 use Rattle.flight_place.specs.declared.place.Named.{Named}
 use Rattle.flight_place.specs.declared.place.PlacedRow.{PlacedRow}
-use Rattle.flight_place.specs.Linked as linked
 use Rattle.flight_place.specs.Linked.{place_at, beside, first_place}
 use Rattle.flight_place.specs.Resolve.{property}
-use Rattle.flight_place.specs.Meaning.{Written, at_place, made_at, action_of, Reference, reference_of, action_shape}
+use Rattle.flight_place.specs.Meaning.{Written, at_place, action_of, Reference, reference_of, action_shape}
 use Rattle.flight_link.specs.declared.found.Spot.{Spot}
 use Rattle.flight_link.specs.declared.key.NodeKey.{NodeKey}
-use Rattle.flight_link.specs.declared.key.NodeKey.TheVariants.{Made}
 use Rattle.flight_link.specs.Nodes.{IsPlain, place_in, spot_of}
-use Rattle.flight_link.specs.Drawing.{identity_of, Draws, DrawsNode}
+use Rattle.flight_link.specs.Drawing.{Draws, DrawsNode}
 use Rattle.flight_link.proofs.PlainRows.{place_there}
 use Rattle.flight_link.proofs.Valid.{reference_parts}
 
-same_spot : (a b : linked.Spot) → made_at a ≡ made_at b → a ≡ b
-same_spot a b e = cc
-
-pub action_node : (rows : List PlacedRow) (keys : List NodeKey) (id : ℕ) (spot at : Spot) (ps : List Named) (n m : ℕ) (text copy : List ℕ) (x : Slot) → IsPlain rows → ((r : Reference) × (reference_of rows id ≡ Some r)) → made_at (spot_of rows spot) ≡ identity_of (Made id 0) → place_in rows spot ≡ Some (place.Object ps) → property ps (codes "id") ≡ Some n → property ps (codes "bound") ≡ Some m → at ≡ record { row = spot.row; place = n } → place_in rows at ≡ Some (place.Atom (atom.Text text)) → copy ≡ text → Draws rows keys x (at_place (beside (spot_of rows spot) m)) → DrawsNode rows keys (action_of id) (node.Action copy x)
-action_node rows keys id spot at ps n m text copy x plain r is e pn pm is_at te copied d =
-    let same : spot_of rows spot ≡ first_place id = same_spot (spot_of rows spot) (first_place id) is in
+pub action_node : (rows : List PlacedRow) (keys : List NodeKey) (id : ℕ) (spot at : Spot) (ps : List Named) (n m : ℕ) (text copy : List ℕ) (x : Slot) → IsPlain rows → ((r : Reference) × (reference_of rows id ≡ Some r)) → spot_of rows spot ≡ first_place id → place_in rows spot ≡ Some (place.Object ps) → property ps (codes "id") ≡ Some n → property ps (codes "bound") ≡ Some m → at ≡ record { row = spot.row; place = n } → place_in rows at ≡ Some (place.Atom (atom.Text text)) → copy ≡ text → Draws rows keys x (at_place (beside (spot_of rows spot) m)) → DrawsNode rows keys (action_of id) (node.Action copy x)
+action_node rows keys id spot at ps n m text copy x plain r same e pn pm is_at te copied d =
     let named : Spot = record { row = spot.row; place = n } in
     let object : place_at rows (first_place id) ≡ Some (place.Object ps) = ap (place_at rows) (sym same) ∙ place_there rows spot (place.Object ps) plain e in
     let there : place_at rows (beside (first_place id) n) ≡ Some (place.Atom (atom.Text text)) =

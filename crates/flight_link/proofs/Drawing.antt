@@ -1,9 +1,10 @@
 -- Keys under numbers, and what is drawn under them.
-use Rattle.std.proofs.Common.{take, get_or, true, false, Bool, cond, ◌&&◌, ◌≡◌, ◌≢◌, ℕ, zero, suc, ◌+◌, ◌<◌, ◌≤◌, ◌^◌, nat_eq, List, [], ◌∷◌, ◌++◌, length, map, Option, Some, None, slice_get, refl, sym, ◌∙◌, ap, subst, arith, inl, inr, ◌⊎◌}
+use Rattle.std.proofs.Common.{take, get_or, true, false, cond, ◌≡◌, ◌≢◌, ℕ, zero, suc, ◌+◌, ◌<◌, ◌≤◌, ◌^◌, nat_eq, List, [], ◌∷◌, ◌++◌, length, map, Option, Some, None, slice_get, slice_set, refl, sym, ◌∙◌, ap, subst, arith, inl, inr, ◌⊎◌}
 use Rattle.std.specs.List.{AllZip}
 use Rattle.std.specs.HashMap.{get}
 use Rattle.std.proofs.lemmas.Bool.Decides.{eqb_tells, nat_tests}
-use Rattle.std.proofs.lemmas.Option.{none-some, same_Some}
+use Rattle.std.proofs.lemmas.Option.{none-some, same_Some, slice_get_within}
+use Rattle.std.proofs.lemmas.List.{length-set}
 use Rattle.flight_value.specs.Graph.{slots_of}
 use Rattle.flight_value.specs.declared.graph.Slot.{Slot}
 use Rattle.flight_value.specs.declared.graph.Slot.TheVariants as slot
@@ -17,19 +18,24 @@ use Rattle.flight_place.specs.declared.place.Place.TheVariants as place
 use Rattle.flight_place.specs.declared.place.Named.{Named}
 use Rattle.flight_place.specs.declared.place.PlacedRow.{PlacedRow}
 use Rattle.flight_place.specs.Linked as linked
-use Rattle.flight_place.specs.Linked.{place_at, beside}
+use Rattle.flight_place.specs.Linked.{rows_of, place_at, beside}
 use Rattle.flight_place.specs.Resolve.{to, found, Ends}
-use Rattle.flight_place.specs.Meaning.{Written, at_place, value_of, slots_in, Identity, made_at, promise_of, at_places, entry, both, entries, map_token, set_token, HasSlots, HasShapeHere, Leads}
+use Rattle.flight_place.specs.Meaning.{Written, at_place, value_of, slots_in, Identity, made_at, promise_of, action_of, at_places, entry, both, entries, map_token, set_token, HasSlots, HasShapeHere, Leads}
 use Rattle.flight_place.proofs.MoreRows.{slice_get-front}
 use Rattle.flight_link.specs.declared.found.Spot.{Spot}
 use Rattle.flight_link.specs.declared.key.NodeKey.{NodeKey}
 use Rattle.flight_link.specs.declared.key.NodeKey.TheVariants.{Made, Promise, Action}
 use Rattle.flight_link.specs.declared.numbers.Numbers.{Numbers}
 use Rattle.flight_link.specs.Nodes.{IsPlain, place_in, spot_of}
-use Rattle.flight_link.specs.Spots.{IsSpot}
-use Rattle.flight_link.specs.Numbering.{pair_eq, number_of, HasNumber, AreNumbered, IsPut, Grows}
+use Rattle.flight_link.specs.Spots.{IsSpot, places_in}
+use Rattle.flight_place.specs.declared.place.Place.{Place}
+use Rattle.flight_link.specs.Backlogs.{cell}
+use Rattle.flight_link.specs.Numbering.{number_among, IsKey, number_of, HasNumber, AreNumbered, IsPut, Grows}
 use Rattle.flight_link.specs.Drawing.{identity_of, Draws, AreSlots, AreProps, IsPairAt, ArePairs, DrawsNode, AreDrawn, AreApart}
-use Rattle.flight_link.proofs.PlainRows.{place_there}
+use Rattle.flight_link.proofs.Backlogs.{cell_here, cell_there}
+use Rattle.flight_link.proofs.Marks.{order, row_before, row_within}
+use Rattle.flight_link.proofs.PlainRows.{held, place_there, row_there, spot_in_row}
+use Rattle.flight_link.proofs.Slots.{spot_is}
 use Rattle.flight_link.proofs.Growing.{push_get, push_at}
 use Rattle.flight_link.proofs.Finds.{none_before}
 use Rattle.flight_link.specs.declared.target.Target.{Target}
@@ -38,15 +44,50 @@ use Rattle.flight_value.specs.declared.graph.Atom.{Atom}
 use Rattle.flight_value.specs.declared.graph.Atom.TheVariants as atom
 use Rattle.std.proofs.lemmas.List.{take_more}
 
+-- ---- numbers of places
+
+-- what stands at one number is one place
+pub one_place : (rows : List PlacedRow) (s t : Spot) (x y : Place) → place_in rows s ≡ Some x → place_in rows t ≡ Some y → number_among rows s ≡ number_among rows t → s ≡ t
+one_place rows s t x y p q e = go (order s.row t.row)
+  where
+    here : (r : PlacedRow) × (slice_get rows s.row ≡ Some r) × (slice_get r.tree.places s.place ≡ Some x)
+    here = row_there rows s x p
+
+    there : (r : PlacedRow) × (slice_get rows t.row ≡ Some r) × (slice_get r.tree.places t.place ≡ Some y)
+    there = row_there rows t y q
+
+    go : (s.row < t.row) ⊎ ((s.row ≡ t.row) ⊎ (t.row < s.row)) → s ≡ t
+    go (inl less) =
+        let w = slice_get_within here.0.tree.places s.place x here.2 in
+        let before = row_before rows s.row t.row here.0 less here.1 in
+        let no_way : ⊥ = omega (arith, e, w, before) in
+        absurd no_way
+    go (inr (inr more)) =
+        let w = slice_get_within there.0.tree.places t.place y there.2 in
+        let before = row_before rows t.row s.row there.0 more there.1 in
+        let no_way : ⊥ = omega (arith, e, w, before) in
+        absurd no_way
+    go (inr (inl same)) =
+        let base : places_in (take s.row rows) ≡ places_in (take t.row rows) = ap (λ k. places_in (take k rows)) same in
+        let place : s.place ≡ t.place = omega (arith, e, base) in
+        ap (λ r. record { row = r; place = s.place }) same ∙ ap (λ n. record { row = t.row; place = n }) place
+
+pub number_within : (rows : List PlacedRow) (s : Spot) (x : Place) → place_in rows s ≡ Some x → number_among rows s < places_in rows
+number_within rows s x p =
+    let r = row_there rows s x p in
+    let w = slice_get_within r.0.tree.places s.place x r.2 in
+    let whole = row_within rows s.row r.0 r.1 in
+    omega (arith, w, whole)
+
 -- ---- numbers of keys
 
-same_made : (i j m n : ℕ) → Made i m ≡ Made j n → (i ≡ j) × (m ≡ n)
-same_made i j m n e = (cc, cc)
+same_spot : (s t : Spot) → Made s ≡ Made t → s ≡ t
+same_spot s t e = cc
 
-tell_made : (i j m n : ℕ) → ((nat_eq i j ≡ true) × (i ≡ j)) ⊎ ((nat_eq i j ≡ false) × (i ≢ j)) → ((nat_eq m n ≡ true) × (m ≡ n)) ⊎ ((nat_eq m n ≡ false) × (m ≢ n)) → (Made i m ≡ Made j n) ⊎ (Made i m ≢ Made j n)
-tell_made i j m n (inl p) (inl q) = inl (ap (λ x. Made x m) p.1 ∙ ap (Made j) q.1)
-tell_made i j m n (inr p) q = inr (λ e. p.1 (same_made i j m n e).0)
-tell_made i j m n (inl p) (inr q) = inr (λ e. q.1 (same_made i j m n e).1)
+tell_spot : (s t : Spot) → ((nat_eq s.row t.row ≡ true) × (s.row ≡ t.row)) ⊎ ((nat_eq s.row t.row ≡ false) × (s.row ≢ t.row)) → ((nat_eq s.place t.place ≡ true) × (s.place ≡ t.place)) ⊎ ((nat_eq s.place t.place ≡ false) × (s.place ≢ t.place)) → (Made s ≡ Made t) ⊎ (Made s ≢ Made t)
+tell_spot s t (inl p) (inl q) = inl (ap (λ n. Made (record { row = n; place = s.place })) p.1 ∙ ap (λ n. Made (record { row = t.row; place = n })) q.1)
+tell_spot s t (inr p) q = inr (λ e. p.1 (ap (λ (x : Spot). x.row) (same_spot s t e)))
+tell_spot s t (inl p) (inr q) = inr (λ e. q.1 (ap (λ (x : Spot). x.place) (same_spot s t e)))
 
 tell_promise : (i j : ℕ) → ((nat_eq i j ≡ true) × (i ≡ j)) ⊎ ((nat_eq i j ≡ false) × (i ≢ j)) → (Promise i ≡ Promise j) ⊎ (Promise i ≢ Promise j)
 tell_promise i j (inl p) = inl (ap Promise p.1)
@@ -57,14 +98,14 @@ tell_action i j (inl p) = inl (ap Action p.1)
 tell_action i j (inr p) = inr (λ e. p.1 cc)
 
 pub tell : (a b : NodeKey) → (a ≡ b) ⊎ (a ≢ b)
-tell (Made i m) (Made j n) = tell_made i j m n (eqb_tells i j) (eqb_tells m n)
+tell (Made s) (Made t) = tell_spot s t (eqb_tells s.row t.row) (eqb_tells s.place t.place)
 tell (Promise i) (Promise j) = tell_promise i j (eqb_tells i j)
 tell (Action i) (Action j) = tell_action i j (eqb_tells i j)
-tell (Made i m) (Promise j) = inr (λ e. cc)
-tell (Made i m) (Action j) = inr (λ e. cc)
-tell (Promise i) (Made j n) = inr (λ e. cc)
+tell (Made s) (Promise j) = inr (λ e. cc)
+tell (Made s) (Action j) = inr (λ e. cc)
+tell (Promise i) (Made t) = inr (λ e. cc)
 tell (Promise i) (Action j) = inr (λ e. cc)
-tell (Action i) (Made j n) = inr (λ e. cc)
+tell (Action i) (Made t) = inr (λ e. cc)
 tell (Action i) (Promise j) = inr (λ e. cc)
 
 has_push : (keys : List NodeKey) (key other : NodeKey) (o : Option ℕ) → key ≢ other → HasNumber keys other o → HasNumber (keys ++ key ∷ []) other o
@@ -72,46 +113,38 @@ has_push keys key other (Some n) ne h = slice_get-front keys (key ∷ []) n othe
 has_push keys key other None ne h = λ i e. elim (push_get keys key i other e) [ inl p ↦ h i p | inr p ↦ ne p.1 ]
 
 -- a key without a number gets the next one
-pub numbered_push : (old new : Numbers) (key : NodeKey) → AreNumbered old → number_of old key ≡ None → new.keys.items ≡ old.keys.items ++ key ∷ [] → number_of new key ≡ Some (length old.keys.items) → ((other : NodeKey) → key ≢ other → number_of new other ≡ number_of old other) → AreNumbered new
-numbered_push old new key is none keys here others = record {
-  each = λ other. subst (λ ks. HasNumber ks other (number_of new other)) (sym keys) (elim (tell key other) [
-    | inl e ↦ subst (λ k. HasNumber (old.keys.items ++ key ∷ []) k (number_of new k)) e (subst (HasNumber (old.keys.items ++ key ∷ []) key) (sym here) (push_at old.keys.items key))
-    | inr ne ↦ subst (HasNumber (old.keys.items ++ key ∷ []) other) (sym (others other ne)) (has_push old.keys.items key other (number_of old other) ne (is.each other))
+pub numbered_push : (rows : List PlacedRow) (old new : Numbers) (key : NodeKey) → IsKey rows key → AreNumbered rows old → number_of rows old key ≡ None → new.keys.items ≡ old.keys.items ++ key ∷ [] → number_of rows new key ≡ Some (length old.keys.items) → ((other : NodeKey) → IsKey rows other → key ≢ other → number_of rows new other ≡ number_of rows old other) → length new.places.items ≡ length old.places.items → AreNumbered rows new
+numbered_push rows old new key is_key is none keys here others room = record {
+  each = λ other there. subst (λ ks. HasNumber ks other (number_of rows new other)) (sym keys) (elim (tell key other) [
+    | inl e ↦ subst (λ k. HasNumber (old.keys.items ++ key ∷ []) k (number_of rows new k)) e (subst (HasNumber (old.keys.items ++ key ∷ []) key) (sym here) (push_at old.keys.items key))
+    | inr ne ↦ subst (HasNumber (old.keys.items ++ key ∷ []) other) (sym (others other there ne)) (has_push old.keys.items key other (number_of rows old other) ne (is.each other there))
   ]);
   back = λ i other e. elim (push_get old.keys.items key i other (sym (ap (λ ks. slice_get ks i) keys) ∙ e)) [
-    | inl h ↦ elim (tell key other) [
-      | inl s ↦ absurd (none-some i (sym none ∙ (ap (number_of old) s ∙ is.back i other h)))
-      | inr ne ↦ others other ne ∙ is.back i other h
-    ]
-    | inr p ↦ sym (ap (number_of new) p.1) ∙ (here ∙ ap Some (sym p.0))
+    | inl h ↦ (let b = is.back i other h in (
+      b.0,
+      elim (tell key other) [
+        | inl s ↦ absurd (none-some i (sym none ∙ (ap (number_of rows old) s ∙ b.1)))
+        | inr ne ↦ others other b.0 ne ∙ b.1
+      ],
+    ))
+    | inr p ↦ (subst (IsKey rows) p.1 is_key, sym (ap (number_of rows new) p.1) ∙ (here ∙ ap Some (sym p.0)))
   ];
+  room = let r = is.room in omega (arith, r, room);
 }
 
 -- a number in one of the tables
-pub put_made : (old new : Numbers) (id at number : ℕ) → new.keys ≡ old.keys → new.promises ≡ old.promises → new.actions ≡ old.actions → ((q : ℕ × ℕ) → get pair_eq new.places q ≡ cond (pair_eq (id, at) q) (Some number) (get pair_eq old.places q)) → IsPut old new (Made id at) number
-put_made old new id at number keys promises actions h = record {
+pub put_made : (rows : List PlacedRow) (old new : Numbers) (s : Spot) (x : Place) (number : ℕ) → place_in rows s ≡ Some x → places_in rows ≤ length old.places.items → new.keys ≡ old.keys → new.promises ≡ old.promises → new.actions ≡ old.actions → new.places.items ≡ slice_set old.places.items (number_among rows s) (Some number) → IsPut rows old new (Made s) number
+put_made rows old new s x number is room keys promises actions h = record {
   keys = ap (λ k. k.items) keys;
-  here = h (id, at) ∙ ap (λ b. cond b (Some number) (get pair_eq old.places (id, at))) (both_true (nat_eq id id) (nat_eq at at) (same_true id) (same_true at));
+  here = ap (λ c. cell c (number_among rows s)) h ∙ cell_here old.places.items (number_among rows s) (Some number) (let w = number_within rows s x is in omega (arith, w, room));
   others = go;
+  room = ap length h ∙ length-set old.places.items (number_among rows s) (Some number);
 }
   where
-    same_true : (n : ℕ) → nat_eq n n ≡ true
-    same_true n = grind (arith, nat_tests)
-
-    both_true : (a b : Bool) → a ≡ true → b ≡ true → (a && b) ≡ true
-    both_true true true p q = refl
-    both_true true false p q = q
-    both_true false b p q = p
-
-    made_apart : (j n : ℕ) → Made id at ≢ Made j n → ((nat_eq id j ≡ true) × (id ≡ j)) ⊎ ((nat_eq id j ≡ false) × (id ≢ j)) → ((nat_eq at n ≡ true) × (at ≡ n)) ⊎ ((nat_eq at n ≡ false) × (at ≢ n)) → (nat_eq id j && nat_eq at n) ≡ false
-    made_apart j n ne (inl p) (inl q) = absurd (ne (ap (λ x. Made x at) p.1 ∙ ap (Made j) q.1))
-    made_apart j n ne (inl p) (inr q) = ap (λ b. b && nat_eq at n) p.0 ∙ q.0
-    made_apart j n ne (inr p) q = ap (λ b. b && nat_eq at n) p.0
-
-    go : (other : NodeKey) → Made id at ≢ other → number_of new other ≡ number_of old other
-    go (Made j n) ne = h (j, n) ∙ ap (λ b. cond b (Some number) (get pair_eq old.places (j, n))) (made_apart j n ne (eqb_tells id j) (eqb_tells at n))
-    go (Promise j) ne = ap (λ t. get nat_eq t j) promises
-    go (Action j) ne = ap (λ t. get nat_eq t j) actions
+    go : (other : NodeKey) → IsKey rows other → Made s ≢ other → number_of rows new other ≡ number_of rows old other
+    go (Made t) there ne = ap (λ c. cell c (number_among rows t)) h ∙ cell_there old.places.items (number_among rows s) (number_among rows t) (Some number) (λ e. ne (ap Made (one_place rows s t x there.0 is there.1 e)))
+    go (Promise j) there ne = ap (λ t. get nat_eq t j) promises
+    go (Action j) there ne = ap (λ t. get nat_eq t j) actions
 
 id_here : (id number : ℕ) (o : Option ℕ) → cond (nat_eq id id) (Some number) o ≡ Some number
 id_here id number o = ap (λ b. cond b (Some number) o) (same_true id)
@@ -122,37 +155,109 @@ id_here id number o = ap (λ b. cond b (Some number) o) (same_true id)
 id_other : (id j number : ℕ) (o : Option ℕ) → id ≢ j → cond (nat_eq id j) (Some number) o ≡ o
 id_other id j number o ne = elim (eqb_tells id j) [ inl p ↦ absurd (ne p.1) | inr p ↦ ap (λ b. cond b (Some number) o) p.0 ]
 
-pub put_promise : (old new : Numbers) (id number : ℕ) → new.keys ≡ old.keys → new.places ≡ old.places → new.actions ≡ old.actions → ((q : ℕ) → get nat_eq new.promises q ≡ cond (nat_eq id q) (Some number) (get nat_eq old.promises q)) → IsPut old new (Promise id) number
-put_promise old new id number keys places actions h = record {
+pub put_promise : (rows : List PlacedRow) (old new : Numbers) (id number : ℕ) → new.keys ≡ old.keys → new.places ≡ old.places → new.actions ≡ old.actions → ((q : ℕ) → get nat_eq new.promises q ≡ cond (nat_eq id q) (Some number) (get nat_eq old.promises q)) → IsPut rows old new (Promise id) number
+put_promise rows old new id number keys places actions h = record {
   keys = ap (λ k. k.items) keys;
   here = h id ∙ id_here id number (get nat_eq old.promises id);
   others = go;
+  room = ap (λ p. length p.items) places;
 }
   where
-    go : (other : NodeKey) → Promise id ≢ other → number_of new other ≡ number_of old other
-    go (Made j n) ne = ap (λ t. get pair_eq t (j, n)) places
-    go (Promise j) ne = h j ∙ id_other id j number (get nat_eq old.promises j) (λ e. ne (ap Promise e))
-    go (Action j) ne = ap (λ t. get nat_eq t j) actions
+    go : (other : NodeKey) → IsKey rows other → Promise id ≢ other → number_of rows new other ≡ number_of rows old other
+    go (Made s) there ne = ap (λ p. cell p.items (number_among rows s)) places
+    go (Promise j) there ne = h j ∙ id_other id j number (get nat_eq old.promises j) (λ e. ne (ap Promise e))
+    go (Action j) there ne = ap (λ t. get nat_eq t j) actions
 
-pub put_action : (old new : Numbers) (id number : ℕ) → new.keys ≡ old.keys → new.places ≡ old.places → new.promises ≡ old.promises → ((q : ℕ) → get nat_eq new.actions q ≡ cond (nat_eq id q) (Some number) (get nat_eq old.actions q)) → IsPut old new (Action id) number
-put_action old new id number keys places promises h = record {
+pub put_action : (rows : List PlacedRow) (old new : Numbers) (id number : ℕ) → new.keys ≡ old.keys → new.places ≡ old.places → new.promises ≡ old.promises → ((q : ℕ) → get nat_eq new.actions q ≡ cond (nat_eq id q) (Some number) (get nat_eq old.actions q)) → IsPut rows old new (Action id) number
+put_action rows old new id number keys places promises h = record {
   keys = ap (λ k. k.items) keys;
   here = h id ∙ id_here id number (get nat_eq old.actions id);
   others = go;
+  room = ap (λ p. length p.items) places;
 }
   where
-    go : (other : NodeKey) → Action id ≢ other → number_of new other ≡ number_of old other
-    go (Made j n) ne = ap (λ t. get pair_eq t (j, n)) places
-    go (Promise j) ne = ap (λ t. get nat_eq t j) promises
-    go (Action j) ne = h j ∙ id_other id j number (get nat_eq old.actions j) (λ e. ne (ap Action e))
+    go : (other : NodeKey) → IsKey rows other → Action id ≢ other → number_of rows new other ≡ number_of rows old other
+    go (Made s) there ne = ap (λ p. cell p.items (number_among rows s)) places
+    go (Promise j) there ne = ap (λ t. get nat_eq t j) promises
+    go (Action j) there ne = h j ∙ id_other id j number (get nat_eq old.actions j) (λ e. ne (ap Action e))
 
-pub same_tables : (n m : Numbers) → n.places ≡ m.places → n.promises ≡ m.promises → n.actions ≡ m.actions → (key : NodeKey) → number_of n key ≡ number_of m key
-same_tables n m p q r (Made id at) = ap (λ t. get pair_eq t (id, at)) p
-same_tables n m p q r (Promise id) = ap (λ t. get nat_eq t id) q
-same_tables n m p q r (Action id) = ap (λ t. get nat_eq t id) r
+pub same_tables : (rows : List PlacedRow) (n m : Numbers) → n.places ≡ m.places → n.promises ≡ m.promises → n.actions ≡ m.actions → (key : NodeKey) → number_of rows n key ≡ number_of rows m key
+same_tables rows n m p q r (Made s) = ap (λ c. cell c.items (number_among rows s)) p
+same_tables rows n m p q r (Promise id) = ap (λ t. get nat_eq t id) q
+same_tables rows n m p q r (Action id) = ap (λ t. get nat_eq t id) r
 
-pub apart : (n : Numbers) → AreNumbered n → AreApart n.keys.items
-apart n is i j key h k = same_Some i j (sym (is.back i key h) ∙ is.back j key k)
+-- ---- one key for a node
+
+same_place : (a b : linked.Spot) → made_at a ≡ made_at b → a ≡ b
+same_place a b e = cc
+
+-- of an id there is one row
+first_row : (rows : List PlacedRow) (i j : ℕ) (r q : PlacedRow) → IsPlain rows → slice_get rows i ≡ Some r → slice_get rows j ≡ Some q → r.id ≡ q.id → i < j → ⊥
+first_row rows i j r q plain e f same less =
+    let front : slice_get (take j rows) i ≡ Some r = get_take rows i j r less e in
+    let h = held (take j rows) i r front in
+    let w = slice_get_within (rows_of r.id (take j rows)) h.0 r.tree h.1 in
+    let none : 0 ≡ length (rows_of r.id (take j rows)) = none_before rows j q plain f ∙ ap (λ id. length (rows_of id (take j rows))) (sym same) in
+    omega (arith, w, none)
+  where
+    get_take : (xs : List PlacedRow) (i j : ℕ) (r : PlacedRow) → i < j → slice_get xs i ≡ Some r → slice_get (take j xs) i ≡ Some r
+    get_take [] i j r less e = absurd (none-some r e)
+    get_take (x ∷ xs) i zero r less e = let no_way : ⊥ = omega (arith, less) in absurd no_way
+    get_take (x ∷ xs) zero (suc j) r less e = e
+    get_take (x ∷ xs) (suc i) (suc j) r less e = get_take xs i j r (omega (arith, less)) e
+
+one_spot : (rows : List PlacedRow) (s t : Spot) (x y : Place) → IsPlain rows → place_in rows s ≡ Some x → place_in rows t ≡ Some y → spot_of rows s ≡ spot_of rows t → s ≡ t
+one_spot rows s t x y plain p q e = go (order s.row t.row)
+  where
+    here : (r : PlacedRow) × (slice_get rows s.row ≡ Some r) × (slice_get r.tree.places s.place ≡ Some x)
+    here = row_there rows s x p
+
+    there : (r : PlacedRow) × (slice_get rows t.row ≡ Some r) × (slice_get r.tree.places t.place ≡ Some y)
+    there = row_there rows t y q
+
+    same_id : here.0.id ≡ there.0.id
+    same_id = ap (λ (z : linked.Spot). z.id) (sym (spot_in_row rows s here.0 here.1) ∙ (e ∙ spot_in_row rows t there.0 there.1))
+
+    place : s.place ≡ t.place
+    place = ap (λ (z : linked.Spot). z.at) e
+
+    go : (s.row < t.row) ⊎ ((s.row ≡ t.row) ⊎ (t.row < s.row)) → s ≡ t
+    go (inl less) = absurd (first_row rows s.row t.row here.0 there.0 plain here.1 there.1 same_id less)
+    go (inr (inr more)) = absurd (first_row rows t.row s.row there.0 here.0 plain there.1 here.1 (sym same_id) more)
+    go (inr (inl same)) = ap (λ r. record { row = r; place = s.place }) same ∙ ap (λ n. record { row = t.row; place = n }) place
+
+same_promise : (i j : ℕ) → promise_of i ≡ promise_of j → i ≡ j
+same_promise i j e = cc
+
+same_action : (i j : ℕ) → action_of i ≡ action_of j → i ≡ j
+same_action i j e = cc
+
+place_or_promise : (s : linked.Spot) (j : ℕ) → made_at s ≡ promise_of j → ⊥
+place_or_promise s j e = cc
+
+place_or_action : (s : linked.Spot) (j : ℕ) → made_at s ≡ action_of j → ⊥
+place_or_action s j e = cc
+
+promise_or_action : (i j : ℕ) → promise_of i ≡ action_of j → ⊥
+promise_or_action i j e = cc
+
+one_key : (rows : List PlacedRow) (a b : NodeKey) → IsPlain rows → IsKey rows a → IsKey rows b → identity_of rows a ≡ identity_of rows b → a ≡ b
+one_key rows (Made s) (Made t) plain p q e = ap Made (one_spot rows s t p.0 q.0 plain p.1 q.1 (same_place (spot_of rows s) (spot_of rows t) e))
+one_key rows (Promise i) (Promise j) plain p q e = ap Promise (same_promise i j e)
+one_key rows (Action i) (Action j) plain p q e = ap Action (same_action i j e)
+one_key rows (Made s) (Promise j) plain p q e = absurd (place_or_promise (spot_of rows s) j e)
+one_key rows (Made s) (Action j) plain p q e = absurd (place_or_action (spot_of rows s) j e)
+one_key rows (Promise i) (Made t) plain p q e = absurd (place_or_promise (spot_of rows t) i (sym e))
+one_key rows (Promise i) (Action j) plain p q e = absurd (promise_or_action i j e)
+one_key rows (Action i) (Made t) plain p q e = absurd (place_or_action (spot_of rows t) i (sym e))
+one_key rows (Action i) (Promise j) plain p q e = absurd (promise_or_action j i (sym e))
+
+pub apart : (rows : List PlacedRow) (n : Numbers) → IsPlain rows → AreNumbered rows n → AreApart rows n.keys.items
+apart rows n plain is i j k l h m e =
+    let a = is.back i k h in
+    let b = is.back j l m in
+    let same : k ≡ l = one_key rows k l plain a.0 b.0 e in
+    same_Some i j (sym a.1 ∙ (ap (number_of rows n) same ∙ b.1))
 
 -- ---- more keys
 
@@ -321,7 +426,7 @@ promise_node rows keys id x h = record {
   few = omega arith;
 }
 
-pub drawn_all : (rows : List PlacedRow) (keys : List NodeKey) (nodes : List Node) → ((n : ℕ) (x : Node) → slice_get nodes n ≡ Some x → (key : NodeKey) × (slice_get keys n ≡ Some key) × DrawsNode rows keys (identity_of key) x) → slice_get keys (length nodes) ≡ None → AreDrawn rows keys nodes
+pub drawn_all : (rows : List PlacedRow) (keys : List NodeKey) (nodes : List Node) → ((n : ℕ) (x : Node) → slice_get nodes n ≡ Some x → (key : NodeKey) × (slice_get keys n ≡ Some key) × DrawsNode rows keys (identity_of rows key) x) → slice_get keys (length nodes) ≡ None → AreDrawn rows keys nodes
 drawn_all rows keys nodes each none = record { each = each; all = past keys (length nodes) none }
   where
     past : (ks : List NodeKey) (n : ℕ) → slice_get ks n ≡ None → length ks ≤ n
@@ -329,30 +434,23 @@ drawn_all rows keys nodes each none = record { each = each; all = past keys (len
     past (k ∷ ks) zero e = absurd (none-some k (sym e))
     past (k ∷ ks) (suc n) e = let h = past ks n e in omega (arith, h)
 
-pub each_push : (rows : List PlacedRow) (keys new : List NodeKey) (nodes : List Node) (key : NodeKey) (x : Node) → Grows keys new → ((n : ℕ) (y : Node) → slice_get nodes n ≡ Some y → (k : NodeKey) × (slice_get keys n ≡ Some k) × DrawsNode rows keys (identity_of k) y) → slice_get keys (length nodes) ≡ Some key → DrawsNode rows new (identity_of key) x → (n : ℕ) (y : Node) → slice_get (nodes ++ x ∷ []) n ≡ Some y → (k : NodeKey) × (slice_get new n ≡ Some k) × DrawsNode rows new (identity_of k) y
+pub each_push : (rows : List PlacedRow) (keys new : List NodeKey) (nodes : List Node) (key : NodeKey) (x : Node) → Grows keys new → ((n : ℕ) (y : Node) → slice_get nodes n ≡ Some y → (k : NodeKey) × (slice_get keys n ≡ Some k) × DrawsNode rows keys (identity_of rows k) y) → slice_get keys (length nodes) ≡ Some key → DrawsNode rows new (identity_of rows key) x → (n : ℕ) (y : Node) → slice_get (nodes ++ x ∷ []) n ≡ Some y → (k : NodeKey) × (slice_get new n ≡ Some k) × DrawsNode rows new (identity_of rows k) y
 each_push rows keys new nodes key x g each at h n y e =
     elim (push_get nodes x n y e) [
-      | inl p ↦ let w = each n y p in (w.0, grown_at keys new n w.0 g w.1, node_grow rows keys new (identity_of w.0) y g w.2)
-      | inr p ↦ (key, subst (λ i. slice_get new i ≡ Some key) (sym p.0) (grown_at keys new (length nodes) key g at), subst (DrawsNode rows new (identity_of key)) p.1 h)
+      | inl p ↦ let w = each n y p in (w.0, grown_at keys new n w.0 g w.1, node_grow rows keys new (identity_of rows w.0) y g w.2)
+      | inr p ↦ (key, subst (λ i. slice_get new i ≡ Some key) (sym p.0) (grown_at keys new (length nodes) key g at), subst (DrawsNode rows new (identity_of rows key)) p.1 h)
     ]
 
--- ---- keys of places
-
-pub spot_key : (rows : List PlacedRow) (spot : Spot) (r : PlacedRow) → IsPlain rows → slice_get rows spot.row ≡ Some r → (s : linked.Spot) → IsSpot rows spot s → made_at s ≡ identity_of (Made r.id spot.place)
-spot_key rows spot r plain e s is =
-    let same : is.row ≡ r = same_Some is.row r (sym is.is_row ∙ e) in
-    let id : s.id ≡ r.id = is.id ∙ ap (λ (x : PlacedRow). x.id) same in
-    let none : s.nth ≡ 0 = is.nth ∙ sym (none_before rows spot.row is.row plain is.is_row) in
-    ap (λ i. made_at (record { id = i; nth = s.nth; at = s.at })) id
-    ∙ (ap (λ n. made_at (record { id = r.id; nth = n; at = s.at })) none ∙ ap (λ n. made_at (record { id = r.id; nth = 0; at = n })) is.at)
+-- ---- slots of targets
 
 pub atom_slot : (rows : List PlacedRow) (keys : List NodeKey) (a b : Atom) → b ≡ a → (w : Written) → Leads rows w (store.atom a) × (a ≢ atom.Pending) → Draws rows keys (slot.Atom b) w
 atom_slot rows keys a b e w h = subst (λ x. Leads rows w (store.atom x)) (sym e) h.0
 
-pub spot_slot : (rows : List PlacedRow) (keys : List NodeKey) (n : ℕ) (key : NodeKey) (spot : Spot) → slice_get keys n ≡ Some key → ((s : linked.Spot) → IsSpot rows spot s → made_at s ≡ identity_of key) → (w : Written) → ((s : linked.Spot) × IsSpot rows spot s × Leads rows w (store.node_at (made_at s))) → Draws rows keys (slot.Node n) w
-spot_slot rows keys n key spot e f w h = (key, e, subst (λ k. Leads rows w (store.node_at k)) (f h.0 h.1) h.2)
+-- a node that is a target leads to its place
+pub node_leads : (rows : List PlacedRow) (spot : Spot) (w : Written) → IsPlain rows → ((s : linked.Spot) × IsSpot rows spot s × Leads rows w (store.node_at (made_at s))) → Leads rows w (store.node_at (made_at (spot_of rows spot)))
+node_leads rows spot w plain h = subst (λ s. Leads rows w (store.node_at (made_at s))) (spot_is rows spot h.0 plain h.1) h.2
 
-pub key_slot : (rows : List PlacedRow) (keys : List NodeKey) (n : ℕ) (key : NodeKey) → slice_get keys n ≡ Some key → (w : Written) → Leads rows w (store.node_at (identity_of key)) → Draws rows keys (slot.Node n) w
+pub key_slot : (rows : List PlacedRow) (keys : List NodeKey) (n : ℕ) (key : NodeKey) → slice_get keys n ≡ Some key → (w : Written) → Leads rows w (store.node_at (identity_of rows key)) → Draws rows keys (slot.Node n) w
 key_slot rows keys n key e w h = (key, e, h)
 
 pub same_identity : (rows : List PlacedRow) (keys : List NodeKey) (k i : Identity) (x : Node) → k ≡ i → DrawsNode rows keys k x → DrawsNode rows keys i x

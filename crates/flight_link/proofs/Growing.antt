@@ -1,7 +1,7 @@
 -- Rows and nodes come behind the old ones.
-use Rattle.std.proofs.Common.{◌≡◌, ◌≢◌, ℕ, zero, suc, ◌+◌, ◌<◌, nat_eq, cond, true, false, List, [], ◌∷◌, ◌++◌, length, Option, Some, None, option_and_then, slice_get, refl, sym, ◌∙◌, ap, subst, arith, inl, inr, ◌⊎◌, length-append, append_assoc, append-nil}
+use Rattle.std.proofs.Common.{◌≡◌, ◌≢◌, ℕ, zero, suc, ◌+◌, ◌<◌, ◌≤◌, nat_eq, cond, true, false, List, [], ◌∷◌, ◌++◌, length, Option, Some, None, option_and_then, slice_get, refl, sym, ◌∙◌, ap, subst, arith, inl, inr, ◌⊎◌, length-append, append_assoc, append-nil}
 use Rattle.std.specs.Prelude.{All}
-use Rattle.std.specs.HashMap.{get}
+use Rattle.flight_link.specs.Known.{known_of}
 use Rattle.std.proofs.lemmas.Bool.Decides.{eqb_tells}
 use Rattle.std.proofs.lemmas.Option.{none-some, same_Some, slice_get_within}
 use Rattle.flight_place.specs.declared.place.Place.{Place}
@@ -15,7 +15,7 @@ use Rattle.flight_link.specs.declared.node.Start.{Start}
 use Rattle.flight_link.specs.declared.node.Start.TheVariants.{Id, Place as AtPlace}
 use Rattle.flight_link.specs.declared.node.State.{State}
 use Rattle.flight_link.specs.declared.node.State.TheVariants.{Absent, Ended, Lost, Behind}
-use Rattle.flight_link.specs.declared.table.Known.{Known}
+use Rattle.flight_link.specs.declared.ids.Known.{Known}
 use Rattle.flight_link.specs.declared.table.Table.{Table}
 use Rattle.flight_link.specs.Nodes.{IsPlain, IsFine, place_in, spot_of, followed, ComeBy, Come, IsThere, Reaches, with_path, last_names, stand, names_in, names_of, Gets, HasBegun, HasNoRow, IsSound, AreSound, IsNodeAt, IsIndexed, IsStart, AreStarts, IsItsNode, IsRowOf, IsKnown, IsTable, AreStates, has_ended, IsQuiet, AreQuiet, node_in}
 use Rattle.flight_link.specs.declared.fresh.Fresh.{Fresh}
@@ -185,8 +185,8 @@ pub record IsNamedNow (t u : Table) (id : ℕ) (k : Known) : Type 0 where
   pub rows : u.rows.items ≡ t.rows.items
   pub index : u.index.items ≡ t.index.items
   pub starts : u.starts.items ≡ t.starts.items ++ Id id ∷ []
-  pub none : get nat_eq t.known id ≡ None
-  pub updates : (q : ℕ) → get nat_eq u.known q ≡ cond (nat_eq id q) (Some k) (get nat_eq t.known q)
+  pub none : known_of t.known id ≡ None
+  pub updates : (q : ℕ) → known_of u.known q ≡ cond (nat_eq id q) (Some k) (known_of t.known q)
   pub node : k.node ≡ length t.starts.items
   pub row : k.row ≡ None
 
@@ -197,30 +197,30 @@ named_starts rows starts id are = λ n start e. go start (push_get starts (Id id
     go start (inl h) are = are start h
     go start (inr p) are = subst (IsStart rows) p.1 tt
 
-no_row : (t : Table) (id : ℕ) → IsTable t → get nat_eq t.known id ≡ None → rows_of id t.rows.items ≡ []
+no_row : (t : Table) (id : ℕ) → IsTable t → known_of t.known id ≡ None → rows_of id t.rows.items ≡ []
 no_row t id table e = subst (IsKnown t.rows.items t.starts.items id) e (table.known id)
 
-named_known : (t u : Table) (id : ℕ) (k : Known) → IsTable t → IsNamedNow t u id k → (q : ℕ) → IsKnown t.rows.items (t.starts.items ++ Id id ∷ []) q (get nat_eq u.known q)
+named_known : (t u : Table) (id : ℕ) (k : Known) → IsTable t → IsNamedNow t u id k → (q : ℕ) → IsKnown t.rows.items (t.starts.items ++ Id id ∷ []) q (known_of u.known q)
 named_known t u id k table is q = go (eqb_tells id q)
   where
     starts : List Start
     starts = t.starts.items ++ Id id ∷ []
 
-    go : ((nat_eq id q ≡ true) × (id ≡ q)) ⊎ ((nat_eq id q ≡ false) × (id ≢ q)) → IsKnown t.rows.items (t.starts.items ++ Id id ∷ []) q (get nat_eq u.known q)
-    go (inl p) = subst (IsKnown t.rows.items (t.starts.items ++ Id id ∷ []) q) (sym (is.updates q ∙ ap (λ b. cond b (Some k) (get nat_eq t.known q)) p.0)) (
+    go : ((nat_eq id q ≡ true) × (id ≡ q)) ⊎ ((nat_eq id q ≡ false) × (id ≢ q)) → IsKnown t.rows.items (t.starts.items ++ Id id ∷ []) q (known_of u.known q)
+    go (inl p) = subst (IsKnown t.rows.items (t.starts.items ++ Id id ∷ []) q) (sym (is.updates q ∙ ap (λ b. cond b (Some k) (known_of t.known q)) p.0)) (
       subst (λ i. IsNodeAt (t.starts.items ++ Id id ∷ []) k.node (Id i)) p.1 (ap (slice_get (t.starts.items ++ Id id ∷ [])) is.node ∙ push_at t.starts.items (Id id)),
       subst (IsRowOf t.rows.items q) (sym is.row) (subst (λ i. rows_of i t.rows.items ≡ []) p.1 (no_row t id table is.none)),
     )
-    go (inr p) = subst (IsKnown t.rows.items (t.starts.items ++ Id id ∷ []) q) (sym (is.updates q ∙ ap (λ b. cond b (Some k) (get nat_eq t.known q)) p.0))
-        (known_starts t.rows.items t.starts.items (Id id ∷ []) q (get nat_eq t.known q) (table.known q))
+    go (inr p) = subst (IsKnown t.rows.items (t.starts.items ++ Id id ∷ []) q) (sym (is.updates q ∙ ap (λ b. cond b (Some k) (known_of t.known q)) p.0))
+        (known_starts t.rows.items t.starts.items (Id id ∷ []) q (known_of t.known q) (table.known q))
 
-named_ids : (t u : Table) (id : ℕ) (k : Known) → IsTable t → IsNamedNow t u id k → (n other : ℕ) → IsNodeAt u.starts.items n (Id other) → IsItsNode n (get nat_eq u.known other)
+named_ids : (t u : Table) (id : ℕ) (k : Known) → IsTable t → IsNamedNow t u id k → (n other : ℕ) → IsNodeAt u.starts.items n (Id other) → IsItsNode n (known_of u.known other)
 named_ids t u id k table is n other e = subst (IsItsNode n) (sym (is.updates other)) (go (push_get t.starts.items (Id id) n (Id other) (sym (ap (λ x. slice_get x n) is.starts) ∙ e)) (eqb_tells id other))
   where
-    go : (slice_get t.starts.items n ≡ Some (Id other)) ⊎ ((n ≡ length t.starts.items) × (Id id ≡ Id other)) → ((nat_eq id other ≡ true) × (id ≡ other)) ⊎ ((nat_eq id other ≡ false) × (id ≢ other)) → IsItsNode n (cond (nat_eq id other) (Some k) (get nat_eq t.known other))
-    go (inl h) (inl p) = absurd (subst (IsItsNode n) is.none (subst (λ i. IsItsNode n (get nat_eq t.known i)) (sym p.1) (table.ids n other h)))
-    go (inl h) (inr p) = subst (λ b. IsItsNode n (cond b (Some k) (get nat_eq t.known other))) (sym p.0) (table.ids n other h)
-    go (inr q) (inl p) = subst (λ b. IsItsNode n (cond b (Some k) (get nat_eq t.known other))) (sym p.0) (is.node ∙ sym q.0)
+    go : (slice_get t.starts.items n ≡ Some (Id other)) ⊎ ((n ≡ length t.starts.items) × (Id id ≡ Id other)) → ((nat_eq id other ≡ true) × (id ≡ other)) ⊎ ((nat_eq id other ≡ false) × (id ≢ other)) → IsItsNode n (cond (nat_eq id other) (Some k) (known_of t.known other))
+    go (inl h) (inl p) = absurd (subst (IsItsNode n) is.none (subst (λ i. IsItsNode n (known_of t.known i)) (sym p.1) (table.ids n other h)))
+    go (inl h) (inr p) = subst (λ b. IsItsNode n (cond b (Some k) (known_of t.known other))) (sym p.0) (table.ids n other h)
+    go (inr q) (inl p) = subst (λ b. IsItsNode n (cond b (Some k) (known_of t.known other))) (sym p.0) (is.node ∙ sym q.0)
     go (inr q) (inr p) = let same : id ≡ other = cc in absurd (p.1 same)
 
 pub named_table : (t u : Table) (id : ℕ) (k : Known) → IsTable t → IsNamedNow t u id k → IsTable u
@@ -233,8 +233,8 @@ named_table t u id k table is = record {
       (subst (λ x. IsIndexed x s (followed at) (node_in t.index.items s)) (sym is.starts)
       (indexed_starts t.starts.items (Id id ∷ []) s (followed at) (node_in t.index.items s) (table.indexed s at (ap (λ (rows : List PlacedRow). place_in rows s) (sym is.rows) ∙ e))));
   known = λ q.
-      subst (λ (rows : List PlacedRow). IsKnown rows u.starts.items q (get nat_eq u.known q)) (sym is.rows)
-      (subst (λ x. IsKnown t.rows.items x q (get nat_eq u.known q)) (sym is.starts) (named_known t u id k table is q));
+      subst (λ (rows : List PlacedRow). IsKnown rows u.starts.items q (known_of u.known q)) (sym is.rows)
+      (subst (λ x. IsKnown t.rows.items x q (known_of u.known q)) (sym is.starts) (named_known t u id k table is q));
   ids = named_ids t u id k table is;
   one_each = ap length is.index ∙ (table.one_each ∙ sym (ap length is.rows));
 }
@@ -276,34 +276,34 @@ keeps_node t u n start k h = ap (λ x. slice_get x n) k.starts ∙ slice_get-fro
 
 -- ---- the nodes of a row that is still to come
 
-pub fresh_none : (starts : List Start) (row : ℕ) (places : List Place) (at : Place) (f g : Fresh) → AreFresh starts row places f → followed at ≡ None → g.index.items ≡ f.index.items ++ None ∷ [] → g.starts.items ≡ f.starts.items → g.states.items ≡ f.states.items → AreFresh starts row (places ++ at ∷ []) g
-fresh_none starts row places at f g are none is_index is_starts is_states = record {
-  one_each = ap length is_index ∙ (length-append f.index.items (None ∷ []) ∙ (ap (λ n. n + 1) are.one_each ∙ sym (length-append places (at ∷ []))));
-  same_count = ap length is_states ∙ (are.same_count ∙ sym (ap length is_starts));
-  placed = λ n p e.
-      subst (λ x. IsFreshAt starts x (record { row = row; place = n }) (followed p) (number_in g.index.items n)) (sym is_starts)
-      (subst (λ x. IsFreshAt starts f.starts.items (record { row = row; place = n }) (followed p) (number_in x n)) (sym is_index)
-      (go n p (push_get places at n p e)));
-  nodes = λ j start state e h. node_more j start state (are.nodes j start state (sym (ap (λ x. slice_get x j) is_starts) ∙ e) (sym (ap (λ x. slice_get x j) is_states) ∙ h));
+-- past its index a row has no nodes
+past_index : (index : List (Option ℕ)) (n : ℕ) → length index ≤ n → number_in index n ≡ None
+past_index [] n w = refl
+past_index (o ∷ index) zero w = let no : ⊥ = omega (arith, w) in absurd no
+past_index (o ∷ index) (suc n) w = past_index index n (omega (arith, w))
+
+pub fresh_none : (starts : List Start) (row : ℕ) (places : List Place) (at : Place) (f : Fresh) → AreFresh starts row places f → followed at ≡ None → AreFresh starts row (places ++ at ∷ []) f
+fresh_none starts row places at f are none = record {
+  few = let e = length-append places (at ∷ []) in let few = are.few in omega (arith, e, few);
+  same_count = are.same_count;
+  placed = λ n p e. go n p (push_get places at n p e);
+  nodes = λ j start state e h. node_more j start state (are.nodes j start state e h);
 }
   where
     node_more : (j : ℕ) (start : Start) (state : State) → IsFreshNode starts row places start state → IsFreshNode starts row (places ++ at ∷ []) start state
     node_more j start state h = record { number = h.number; is_start = h.is_start; at = h.at; is_place = slice_get-front places (at ∷ []) h.number h.at h.is_place; way = h.way; is_way = h.is_way; node = h.node; is_node = h.is_node; is_state = h.is_state }
 
-    go : (n : ℕ) (p : Place) → (slice_get places n ≡ Some p) ⊎ ((n ≡ length places) × (at ≡ p)) → IsFreshAt starts f.starts.items (record { row = row; place = n }) (followed p) (number_in (f.index.items ++ None ∷ []) n)
-    go n p (inl h) =
-        let w = slice_get_within places n p h in
-        let w' : n < length f.index.items = omega (arith, w, are.one_each) in
-        subst (λ x. IsFreshAt starts f.starts.items (record { row = row; place = n }) (followed p) x) (sym (ap (option_and_then (λ o. o)) (get_before f.index.items (None ∷ []) n w'))) (are.placed n p h)
+    go : (n : ℕ) (p : Place) → (slice_get places n ≡ Some p) ⊎ ((n ≡ length places) × (at ≡ p)) → IsFreshAt starts f.starts.items (record { row = row; place = n }) (followed p) (number_in f.index.items n)
+    go n p (inl h) = are.placed n p h
     go n p (inr q) =
         let is_none : followed p ≡ None = ap followed (sym q.1) ∙ none in
-        let is_number : number_in (f.index.items ++ None ∷ []) n ≡ None = ap (option_and_then (λ o. o)) (ap (slice_get (f.index.items ++ None ∷ [])) (q.0 ∙ sym are.one_each) ∙ push_at f.index.items None) in
-        subst (λ x. IsFreshAt starts f.starts.items (record { row = row; place = n }) x (number_in (f.index.items ++ None ∷ []) n)) (sym is_none)
+        let is_number : number_in f.index.items n ≡ None = past_index f.index.items n (let few = are.few in let last = q.0 in omega (arith, few, last)) in
+        subst (λ x. IsFreshAt starts f.starts.items (record { row = row; place = n }) x (number_in f.index.items n)) (sym is_none)
         (subst (λ x. IsFreshAt starts f.starts.items (record { row = row; place = n }) None x) (sym is_number) tt)
 
-pub fresh_some : (starts : List Start) (row : ℕ) (places : List Place) (at : Place) (f g : Fresh) (way : ℕ × Path) (number node : ℕ) → AreFresh starts row places f → followed at ≡ Some way → IsNodeAt starts node (Id way.0) → number ≡ length starts + length f.starts.items → g.index.items ≡ f.index.items ++ Some number ∷ [] → g.starts.items ≡ f.starts.items ++ AtPlace (record { row = row; place = length places }) ∷ [] → g.states.items ≡ f.states.items ++ Behind node (length way.1) ∷ [] → AreFresh starts row (places ++ at ∷ []) g
-fresh_some starts row places at f g way number node are some is_node is_number is_index is_starts is_states = record {
-  one_each = ap length is_index ∙ (length-append f.index.items (Some number ∷ []) ∙ (ap (λ n. n + 1) are.one_each ∙ sym (length-append places (at ∷ []))));
+pub fresh_some : (starts : List Start) (row : ℕ) (places : List Place) (at : Place) (f g : Fresh) (index : List (Option ℕ)) (way : ℕ × Path) (number node : ℕ) → AreFresh starts row places f → followed at ≡ Some way → IsNodeAt starts node (Id way.0) → number ≡ length starts + length f.starts.items → ((n : ℕ) → number_in index n ≡ number_in f.index.items n) → length index ≡ length places → g.index.items ≡ index ++ Some number ∷ [] → g.starts.items ≡ f.starts.items ++ AtPlace (record { row = row; place = length places }) ∷ [] → g.states.items ≡ f.states.items ++ Behind node (length way.1) ∷ [] → AreFresh starts row (places ++ at ∷ []) g
+fresh_some starts row places at f g index way number node are some is_node is_number same long is_index is_starts is_states = record {
+  few = let e = ap length is_index ∙ length-append index (Some number ∷ []) in let p = length-append places (at ∷ []) in omega (arith, e, p, long);
   same_count = ap length is_states ∙ (length-append f.states.items (Behind node (length way.1) ∷ []) ∙ (ap (λ n. n + 1) are.same_count ∙ (sym (length-append f.starts.items (AtPlace (record { row = row; place = length places }) ∷ [])) ∙ sym (ap length is_starts))));
   placed = λ n p e.
       subst (λ x. IsFreshAt starts x (record { row = row; place = n }) (followed p) (number_in g.index.items n)) (sym is_starts)
@@ -327,15 +327,15 @@ fresh_some starts row places at f g way number node are some is_node is_number i
     more_at s (Some w) None h = h
     more_at s None (Some n) h = h
 
-    go : (n : ℕ) (p : Place) → (slice_get places n ≡ Some p) ⊎ ((n ≡ length places) × (at ≡ p)) → IsFreshAt starts (f.starts.items ++ AtPlace (record { row = row; place = length places }) ∷ []) (record { row = row; place = n }) (followed p) (number_in (f.index.items ++ Some number ∷ []) n)
+    go : (n : ℕ) (p : Place) → (slice_get places n ≡ Some p) ⊎ ((n ≡ length places) × (at ≡ p)) → IsFreshAt starts (f.starts.items ++ AtPlace (record { row = row; place = length places }) ∷ []) (record { row = row; place = n }) (followed p) (number_in (index ++ Some number ∷ []) n)
     go n p (inl h) =
         let w = slice_get_within places n p h in
-        let w' : n < length f.index.items = omega (arith, w, are.one_each) in
-        subst (λ x. IsFreshAt starts (f.starts.items ++ AtPlace (record { row = row; place = length places }) ∷ []) (record { row = row; place = n }) (followed p) x) (sym (ap (option_and_then (λ o. o)) (get_before f.index.items (Some number ∷ []) n w')))
+        let w' : n < length index = omega (arith, w, long) in
+        subst (λ x. IsFreshAt starts (f.starts.items ++ AtPlace (record { row = row; place = length places }) ∷ []) (record { row = row; place = n }) (followed p) x) (sym (ap (option_and_then (λ o. o)) (get_before index (Some number ∷ []) n w') ∙ same n))
         (more_at (record { row = row; place = n }) (followed p) (number_in f.index.items n) (are.placed n p h))
     go n p (inr q) =
         let is_some : followed p ≡ Some way = ap followed (sym q.1) ∙ some in
-        let is_here : number_in (f.index.items ++ Some number ∷ []) n ≡ Some number = ap (option_and_then (λ o. o)) (ap (slice_get (f.index.items ++ Some number ∷ [])) (q.0 ∙ sym are.one_each) ∙ push_at f.index.items (Some number)) in
-        subst (λ x. IsFreshAt starts (f.starts.items ++ AtPlace (record { row = row; place = length places }) ∷ []) (record { row = row; place = n }) x (number_in (f.index.items ++ Some number ∷ []) n)) (sym is_some)
+        let is_here : number_in (index ++ Some number ∷ []) n ≡ Some number = ap (option_and_then (λ o. o)) (ap (slice_get (index ++ Some number ∷ [])) (q.0 ∙ sym long) ∙ push_at index (Some number)) in
+        subst (λ x. IsFreshAt starts (f.starts.items ++ AtPlace (record { row = row; place = length places }) ∷ []) (record { row = row; place = n }) x (number_in (index ++ Some number ∷ []) n)) (sym is_some)
         (subst (λ x. IsFreshAt starts (f.starts.items ++ AtPlace (record { row = row; place = length places }) ∷ []) (record { row = row; place = n }) (Some way) x) (sym is_here)
         (length f.starts.items, is_number, push_at f.starts.items (AtPlace (record { row = row; place = length places })) ∙ ap (λ m. Some (AtPlace (record { row = row; place = m }))) (sym q.0)))

@@ -1,9 +1,11 @@
 pub mod Steps
+pub mod Searched
 pub mod Turns
 pub mod PlainRows
 pub mod Stepping
 pub mod Advancing
 pub mod Settling
+pub mod Knowing
 pub mod Growing
 pub mod RowComes
 pub mod Standing

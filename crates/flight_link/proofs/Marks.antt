@@ -41,7 +41,7 @@ row_within (x ∷ xs) (suc i) r e =
     let front = places_cons x (take i xs) in
     omega (arith, h, whole, front)
 
-row_before : (rows : List PlacedRow) (i j : ℕ) (r : PlacedRow) → i < j → slice_get rows i ≡ Some r → places_in (take i rows) + length r.tree.places ≤ places_in (take j rows)
+pub row_before : (rows : List PlacedRow) (i j : ℕ) (r : PlacedRow) → i < j → slice_get rows i ≡ Some r → places_in (take i rows) + length r.tree.places ≤ places_in (take j rows)
 row_before [] i j r l e = absurd (none-some r e)
 row_before (x ∷ xs) zero zero r l e = let no_less : ⊥ = omega (arith, l) in absurd no_less
 row_before (x ∷ xs) (suc i) zero r l e = let no_less : ⊥ = omega (arith, l) in absurd no_less
@@ -87,7 +87,7 @@ is_number t bases total b s at table are e is = record {
 abbrev pub IsNoneBefore : List PlacedRow → Place → ℕ → Type 0
 IsNoneBefore rows at i = (j : ℕ) (r : PlacedRow) → j < i → slice_get rows j ≡ Some r → (m : ℕ) → slice_get r.tree.places m ≢ Some at
 
-order : (i j : ℕ) → (i < j) ⊎ ((i ≡ j) ⊎ (j < i))
+pub order : (i j : ℕ) → (i < j) ⊎ ((i ≡ j) ⊎ (j < i))
 order zero zero = inr (inl refl)
 order zero (suc j) = inl (omega arith)
 order (suc i) zero = inr (inr (omega arith))

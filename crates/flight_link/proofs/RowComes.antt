@@ -1,6 +1,6 @@
 -- A row comes, with the nodes of its places.
 use Rattle.std.proofs.Common.{◌≡◌, ◌≢◌, ℕ, zero, suc, ◌+◌, ◌<◌, nat_eq, cond, true, false, List, [], ◌∷◌, ◌++◌, length, Option, Some, None, option_and_then, slice_get, slice_set, refl, sym, ◌∙◌, ap, subst, arith, inl, inr, ◌⊎◌, length-append, append-nil}
-use Rattle.std.specs.HashMap.{get}
+use Rattle.flight_link.specs.Known.{known_of}
 use Rattle.std.specs.Prelude.{All}
 use Rattle.std.proofs.lemmas.Bool.Decides.{eqb_tells}
 use Rattle.std.proofs.lemmas.List.{length-set}
@@ -19,7 +19,7 @@ use Rattle.flight_link.specs.declared.node.Start.{Start}
 use Rattle.flight_link.specs.declared.node.Start.TheVariants.{Id, Place as AtPlace}
 use Rattle.flight_link.specs.declared.node.State.{State}
 use Rattle.flight_link.specs.declared.node.State.TheVariants.{Behind}
-use Rattle.flight_link.specs.declared.table.Known.{Known}
+use Rattle.flight_link.specs.declared.ids.Known.{Known}
 use Rattle.flight_link.specs.declared.table.Table.{Table}
 use Rattle.flight_link.specs.Nodes.{IsPlain, IsFine, place_in, spot_of, followed, names_in, names_of, ComesBehind, HasBegun, IsSound, AreSound, IsNodeAt, IsIndexed, AreIndexed, IsStart, AreStarts, IsItsNode, IsRowOf, IsKnown, IsTable, AreStates, node_in, IsStop}
 use Rattle.flight_link.specs.Growth.{IsFreshAt, IsFreshNode, number_in, root_by, root_of, MayCome}
@@ -34,7 +34,7 @@ pub record HasCome (t u : Table) (r : PlacedRow) (f : Fresh) (node : ℕ) : Type
   pub rows : u.rows.items ≡ t.rows.items ++ r ∷ []
   pub index : u.index.items ≡ t.index.items ++ f.index.items ∷ []
   pub starts : u.starts.items ≡ t.starts.items ++ f.starts.items
-  pub updates : (q : ℕ) → get nat_eq u.known q ≡ cond (nat_eq r.id q) (Some (record { node = node; row = Some (length t.rows.items) })) (get nat_eq t.known q)
+  pub updates : (q : ℕ) → known_of u.known q ≡ cond (nat_eq r.id q) (Some (record { node = node; row = Some (length t.rows.items) })) (known_of t.known q)
 
 -- ---- places
 
@@ -112,16 +112,16 @@ known_rows : (rows : List PlacedRow) (r : PlacedRow) (starts : List Start) (id :
 known_rows rows r starts id None other h = rows_of-other id rows r other ∙ h
 known_rows rows r starts id (Some k) other h = (h.0, row_stays rows r id k.row other h.1)
 
-known_added : (t u : Table) (r : PlacedRow) (f : Fresh) (node : ℕ) → IsTable t → MayCome t r f node → HasCome t u r f node → (q : ℕ) → IsKnown (t.rows.items ++ r ∷ []) (t.starts.items ++ f.starts.items) q (get nat_eq u.known q)
+known_added : (t u : Table) (r : PlacedRow) (f : Fresh) (node : ℕ) → IsTable t → MayCome t r f node → HasCome t u r f node → (q : ℕ) → IsKnown (t.rows.items ++ r ∷ []) (t.starts.items ++ f.starts.items) q (known_of u.known q)
 known_added t u r f node table may has q = subst (IsKnown (t.rows.items ++ r ∷ []) (t.starts.items ++ f.starts.items) q) (sym (has.updates q)) (go (eqb_tells r.id q))
   where
-    go : ((nat_eq r.id q ≡ true) × (r.id ≡ q)) ⊎ ((nat_eq r.id q ≡ false) × (r.id ≢ q)) → IsKnown (t.rows.items ++ r ∷ []) (t.starts.items ++ f.starts.items) q (cond (nat_eq r.id q) (Some (record { node = node; row = Some (length t.rows.items) })) (get nat_eq t.known q))
-    go (inl p) = subst (λ b. IsKnown (t.rows.items ++ r ∷ []) (t.starts.items ++ f.starts.items) q (cond b (Some (record { node = node; row = Some (length t.rows.items) })) (get nat_eq t.known q))) (sym p.0) (
+    go : ((nat_eq r.id q ≡ true) × (r.id ≡ q)) ⊎ ((nat_eq r.id q ≡ false) × (r.id ≢ q)) → IsKnown (t.rows.items ++ r ∷ []) (t.starts.items ++ f.starts.items) q (cond (nat_eq r.id q) (Some (record { node = node; row = Some (length t.rows.items) })) (known_of t.known q))
+    go (inl p) = subst (λ b. IsKnown (t.rows.items ++ r ∷ []) (t.starts.items ++ f.starts.items) q (cond b (Some (record { node = node; row = Some (length t.rows.items) })) (known_of t.known q))) (sym p.0) (
       slice_get-front t.starts.items f.starts.items node (Id q) (subst (λ i. IsNodeAt t.starts.items node (Id i)) p.1 may.is_node),
       (r, push_at t.rows.items r, p.1),
     )
-    go (inr p) = subst (λ b. IsKnown (t.rows.items ++ r ∷ []) (t.starts.items ++ f.starts.items) q (cond b (Some (record { node = node; row = Some (length t.rows.items) })) (get nat_eq t.known q))) (sym p.0)
-        (known_rows t.rows.items r (t.starts.items ++ f.starts.items) q (get nat_eq t.known q) p.0 (known_starts t.rows.items t.starts.items f.starts.items q (get nat_eq t.known q) (table.known q)))
+    go (inr p) = subst (λ b. IsKnown (t.rows.items ++ r ∷ []) (t.starts.items ++ f.starts.items) q (cond b (Some (record { node = node; row = Some (length t.rows.items) })) (known_of t.known q))) (sym p.0)
+        (known_rows t.rows.items r (t.starts.items ++ f.starts.items) q (known_of t.known q) p.0 (known_starts t.rows.items t.starts.items f.starts.items q (known_of t.known q) (table.known q)))
 
 its_node : (n m : ℕ) (o : Option Known) → IsItsNode n o → IsItsNode m o → n ≡ m
 its_node n m None h k = absurd h
@@ -130,13 +130,13 @@ its_node n m (Some w) h k = sym h ∙ k
 id_place : {A : Type 0} (id : ℕ) (s : Spot) → Id id ≡ AtPlace s → A
 id_place id s e = cc
 
-ids_added : (t u : Table) (r : PlacedRow) (f : Fresh) (node : ℕ) → IsTable t → MayCome t r f node → HasCome t u r f node → (n id : ℕ) → IsNodeAt (t.starts.items ++ f.starts.items) n (Id id) → IsItsNode n (get nat_eq u.known id)
+ids_added : (t u : Table) (r : PlacedRow) (f : Fresh) (node : ℕ) → IsTable t → MayCome t r f node → HasCome t u r f node → (n id : ℕ) → IsNodeAt (t.starts.items ++ f.starts.items) n (Id id) → IsItsNode n (known_of u.known id)
 ids_added t u r f node table may has n id e = subst (IsItsNode n) (sym (has.updates id)) (go (append_get t.starts.items f.starts.items n (Id id) e) (eqb_tells r.id id))
   where
-    go : (slice_get t.starts.items n ≡ Some (Id id)) ⊎ ((j : ℕ) × (n ≡ length t.starts.items + j) × (slice_get f.starts.items j ≡ Some (Id id))) → ((nat_eq r.id id ≡ true) × (r.id ≡ id)) ⊎ ((nat_eq r.id id ≡ false) × (r.id ≢ id)) → IsItsNode n (cond (nat_eq r.id id) (Some (record { node = node; row = Some (length t.rows.items) })) (get nat_eq t.known id))
-    go (inl h) (inl p) = subst (λ b. IsItsNode n (cond b (Some (record { node = node; row = Some (length t.rows.items) })) (get nat_eq t.known id))) (sym p.0)
-        (its_node node n (get nat_eq t.known id) (table.ids node id (subst (λ i. IsNodeAt t.starts.items node (Id i)) p.1 may.is_node)) (table.ids n id h))
-    go (inl h) (inr p) = subst (λ b. IsItsNode n (cond b (Some (record { node = node; row = Some (length t.rows.items) })) (get nat_eq t.known id))) (sym p.0) (table.ids n id h)
+    go : (slice_get t.starts.items n ≡ Some (Id id)) ⊎ ((j : ℕ) × (n ≡ length t.starts.items + j) × (slice_get f.starts.items j ≡ Some (Id id))) → ((nat_eq r.id id ≡ true) × (r.id ≡ id)) ⊎ ((nat_eq r.id id ≡ false) × (r.id ≢ id)) → IsItsNode n (cond (nat_eq r.id id) (Some (record { node = node; row = Some (length t.rows.items) })) (known_of t.known id))
+    go (inl h) (inl p) = subst (λ b. IsItsNode n (cond b (Some (record { node = node; row = Some (length t.rows.items) })) (known_of t.known id))) (sym p.0)
+        (its_node node n (known_of t.known id) (table.ids node id (subst (λ i. IsNodeAt t.starts.items node (Id i)) p.1 may.is_node)) (table.ids n id h))
+    go (inl h) (inr p) = subst (λ b. IsItsNode n (cond b (Some (record { node = node; row = Some (length t.rows.items) })) (known_of t.known id))) (sym p.0) (table.ids n id h)
     go (inr q) p =
         let s = as_many f.starts.items f.states.items q.0 (Id id) may.fresh.same_count q.2 in
         let x = may.fresh.nodes q.0 (Id id) s.0 q.2 s.1 in
@@ -152,8 +152,8 @@ table_added t u r f node table may has = record {
       (subst (λ x. AreIndexed (t.rows.items ++ r ∷ []) x u.index.items) (sym has.starts)
       (subst (AreIndexed (t.rows.items ++ r ∷ []) (t.starts.items ++ f.starts.items)) (sym has.index) (indexed_added t r f node table may)));
   known = λ q.
-      subst (λ (rows : List PlacedRow). IsKnown rows u.starts.items q (get nat_eq u.known q)) (sym has.rows)
-      (subst (λ x. IsKnown (t.rows.items ++ r ∷ []) x q (get nat_eq u.known q)) (sym has.starts) (known_added t u r f node table may has q));
+      subst (λ (rows : List PlacedRow). IsKnown rows u.starts.items q (known_of u.known q)) (sym has.rows)
+      (subst (λ x. IsKnown (t.rows.items ++ r ∷ []) x q (known_of u.known q)) (sym has.starts) (known_added t u r f node table may has q));
   ids = λ n id e. ids_added t u r f node table may has n id (sym (ap (λ x. slice_get x n) has.starts) ∙ e);
   one_each = ap length has.index ∙ (length-append t.index.items (f.index.items ∷ []) ∙ (ap (λ n. n + 1) table.one_each ∙ (sym (length-append t.rows.items (r ∷ [])) ∙ sym (ap length has.rows))));
 }
@@ -242,7 +242,7 @@ states_sound t r f node states table may are n start state e h = go (same_or nod
   where
     two : node ≢ n → (slice_get t.starts.items n ≡ Some start) ⊎ ((j : ℕ) × (n ≡ length t.starts.items + j) × (slice_get f.starts.items j ≡ Some start)) → (slice_get states n ≡ Some state) ⊎ ((j : ℕ) × (n ≡ length states + j) × (slice_get f.states.items j ≡ Some state)) → IsSound (t.rows.items ++ r ∷ []) (t.starts.items ++ f.starts.items) start state
     two ne (inl h) (inl k) =
-        let other : start ≢ Id r.id = λ x. ne (its_node node n (get nat_eq t.known r.id) (table.ids node r.id may.is_node) (table.ids n r.id (h ∙ ap Some x))) in
+        let other : start ≢ Id r.id = λ x. ne (its_node node n (known_of t.known r.id) (table.ids node r.id may.is_node) (table.ids n r.id (h ∙ ap Some x))) in
         sound_starts (t.rows.items ++ r ∷ []) t.starts.items f.starts.items start state
         (sound_rows t.rows.items r t.starts.items start state table.starts (table.starts n start h) other (are.sound n start state h k))
     two ne (inl h) (inr p) = let w = slice_get_within t.starts.items n start h in let no : ⊥ = omega (arith, w, p.1, are.one_each) in absurd no

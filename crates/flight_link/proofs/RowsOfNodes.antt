@@ -1,11 +1,11 @@
 -- From which rows the nodes of the canon come.
-use Rattle.std.proofs.Common.{◌≡◌, ℕ, zero, suc, ◌<◌, ◌≤◌, List, [], ◌∷◌, length, map, Option, Some, unwrap_or, slice_get, refl, sym, ◌∙◌, ap, subst, arith}
+use Rattle.std.proofs.Common.{◌≡◌, ℕ, zero, suc, ◌<◌, List, [], ◌∷◌, length, map, Some, unwrap_or, slice_get, refl, sym, ◌∙◌, ap, subst, arith}
 use Rattle.std.specs.Prelude.{option_map}
 use Rattle.std.specs.List.{AllByRecursion, AllZip}
 use Rattle.std.proofs.lemmas.Option.{none-some, same_Some, slice_get-map}
 use Rattle.std.proofs.lemmas.List.{length-map}
 use Rattle.flight_value.specs.Graph.{IsValid, slots_of}
-use Rattle.flight_value.specs.Store.{Fits, Paired, of_graph}
+use Rattle.flight_value.specs.Store.{Paired}
 use Rattle.flight_value.specs.declared.graph.Slot.{Slot}
 use Rattle.flight_value.specs.declared.graph.Slot.TheVariants as slot
 use Rattle.flight_value.specs.declared.graph.Node.{Node}
@@ -58,7 +58,7 @@ abbrev new_node : Graph → List ℕ → ℕ → Node
 new_node g v n = map_slots (renamed v) (node_at g.nodes n)
 
 -- a node of the canon draws what the key of its old number stands for
-node_drawn : (rows : List PlacedRow) (keys : List NodeKey) (g : Graph) (v : List ℕ) → Reaches g v [] → AreDrawn rows keys g.nodes → (m : ℕ) → In m v → (key : NodeKey) × (slice_get keys m ≡ Some key) × DrawsNode rows (map (key_of keys) v) (identity_of key) (new_node g v m)
+node_drawn : (rows : List PlacedRow) (keys : List NodeKey) (g : Graph) (v : List ℕ) → Reaches g v [] → AreDrawn rows keys g.nodes → (m : ℕ) → In m v → (key : NodeKey) × (slice_get keys m ≡ Some key) × DrawsNode rows (map (key_of keys) v) (identity_of rows key) (new_node g v m)
 node_drawn rows keys g v r drawn m h =
     let old = node_at g.nodes m in
     let d = drawn.each m old (get_node g.nodes m (below_in (length g.nodes) m v r.below h)) in
@@ -80,33 +80,34 @@ each_drawn rows keys g v r drawn = record {
   each = λ n node e.
       let at = at_map (new_node g v) v n node e in
       let d = node_drawn rows keys g v r drawn at.0 (in_at v n at.0 at.1) in
-      (d.0, key_at keys v n at.0 d.0 at.1 d.1, subst (DrawsNode rows (map (key_of keys) v) (identity_of d.0)) (sym at.2) d.2);
+      (d.0, key_at keys v n at.0 d.0 at.1 d.1, subst (DrawsNode rows (map (key_of keys) v) (identity_of rows d.0)) (sym at.2) d.2);
   all = omega (arith, length-map v (key_of keys), length-map v (new_node g v));
 }
 
--- no key stands twice in that order
-still_apart : (rows : List PlacedRow) (keys : List NodeKey) (g : Graph) (v : List ℕ) → Reaches g v [] → AreDrawn rows keys g.nodes → AreApart keys → AreApart (map (key_of keys) v)
-still_apart rows keys g v r drawn apart m n key h k =
-    let a = at_map (key_of keys) v m key h in
-    let b = at_map (key_of keys) v n key k in
+-- no node stands twice in that order
+still_apart : (rows : List PlacedRow) (keys : List NodeKey) (g : Graph) (v : List ℕ) → Reaches g v [] → AreDrawn rows keys g.nodes → AreApart rows keys → AreApart rows (map (key_of keys) v)
+still_apart rows keys g v r drawn apart m n k l h i e =
+    let a = at_map (key_of keys) v m k h in
+    let b = at_map (key_of keys) v n l i in
     let x = node_drawn rows keys g v r drawn a.0 (in_at v m a.0 a.1) in
     let y = node_drawn rows keys g v r drawn b.0 (in_at v n b.0 b.1) in
-    let here : slice_get keys a.0 ≡ Some key = x.1 ∙ ap Some (sym (key_there keys a.0 x.0 x.1) ∙ sym a.2) in
-    let there : slice_get keys b.0 ≡ Some key = y.1 ∙ ap Some (sym (key_there keys b.0 y.0 y.1) ∙ sym b.2) in
-    one_place v m n a.0 r.distinct a.1 (b.1 ∙ ap Some (sym (apart a.0 b.0 key here there)))
+    let here : k ≡ x.0 = a.2 ∙ key_there keys a.0 x.0 x.1 in
+    let there : l ≡ y.0 = b.2 ∙ key_there keys b.0 y.0 y.1 in
+    let same : identity_of rows x.0 ≡ identity_of rows y.0 = ap (identity_of rows) (sym here) ∙ (e ∙ ap (identity_of rows) there) in
+    one_place v m n a.0 r.distinct a.1 (b.1 ∙ ap Some (sym (apart a.0 b.0 x.0 y.0 x.1 y.1 same)))
 
 -- ---- their rows
 
 abbrev graph_with : Slot → List Node → Graph
 graph_with root nodes = record { root = root; nodes = nodes }
 
-each_origin : (keys : List NodeKey) (v : List ℕ) (n : ℕ) (node : Identity) → Paired (numbered_from 0 (map (key_of keys) v)) n node → slice_get (map (origin_in keys) v) n ≡ Some (origin_of node)
-each_origin keys v n node p =
-    let held = pair_held (map (key_of keys) v) n node p in
+each_origin : (rows : List PlacedRow) (keys : List NodeKey) (v : List ℕ) (n : ℕ) (node : Identity) → Paired (numbered_from rows 0 (map (key_of keys) v)) n node → slice_get (map (origin_in rows keys) v) n ≡ Some (origin_of node)
+each_origin rows keys v n node p =
+    let held = pair_held rows (map (key_of keys) v) n node p in
     let at = at_map (key_of keys) v n held.0 held.1 in
-    slice_get-map (origin_in keys) v n ∙ (ap (option_map (origin_in keys)) at.1 ∙ ap (λ i. Some (origin_of i)) (sym (ap identity_of at.2) ∙ held.2))
+    slice_get-map (origin_in rows keys) v n ∙ (ap (option_map (origin_in rows keys)) at.1 ∙ ap (λ i. Some (origin_of i)) (sym (ap (identity_of rows) at.2) ∙ held.2))
 
-pub origins_right : (rows : List PlacedRow) (keys : List NodeKey) (root : Slot) (nodes : List Node) → IsValid (graph_with root nodes) → Draws rows keys root (value_of 0) → AreDrawn rows keys nodes → AreApart keys → AreOrigins rows (map (origin_in keys) (visited_of (graph_with root nodes)))
+pub origins_right : (rows : List PlacedRow) (keys : List NodeKey) (root : Slot) (nodes : List Node) → IsValid (graph_with root nodes) → Draws rows keys root (value_of 0) → AreDrawn rows keys nodes → AreApart rows keys → AreOrigins rows (map (origin_in rows keys) (visited_of (graph_with root nodes)))
 unfolding canon_of
 origins_right rows keys root nodes valid at drawn apart =
     let g = graph_with root nodes in
@@ -117,9 +118,9 @@ origins_right rows keys root nodes valid at drawn apart =
     record {
       graph = canon_of g;
       valid = canon_valid g valid;
-      is_canon = drawn_one_canon (meaning rows) (record { leads_once = leads_once rows; stands_once = stands_once rows }) (canon_of g) g (canon_valid g valid) valid (numbered_from 0 new, fits) (numbered_from 0 keys, graph_fits rows keys root nodes at drawn apart);
-      pairs = numbered_from 0 new;
+      is_canon = drawn_one_canon (meaning rows) (record { leads_once = leads_once rows; stands_once = stands_once rows }) (canon_of g) g (canon_valid g valid) valid (numbered_from rows 0 new, fits) (numbered_from rows 0 keys, graph_fits rows keys root nodes at drawn apart);
+      pairs = numbered_from rows 0 new;
       fits = fits;
-      one_each = length-map v (origin_in keys) ∙ sym (length-map v (new_node g v));
-      each = λ n node p. each_origin keys v n node p;
+      one_each = length-map v (origin_in rows keys) ∙ sym (length-map v (new_node g v));
+      each = λ n node p. each_origin rows keys v n node p;
     }

@@ -11,7 +11,7 @@ use Rattle.flight_place.specs.declared.place.Place.{Place}
 use Rattle.flight_place.specs.declared.place.Place.TheVariants as place
 use Rattle.flight_place.specs.declared.place.Named.{Named}
 use Rattle.flight_place.specs.declared.place.PlacedRow.{PlacedRow}
-use Rattle.flight_place.specs.Parts.{IsWithin}
+use Rattle.flight_place.specs.Parts.{IsWithin, HasOrder}
 use Rattle.flight_place.specs.Resolve.{Path, step, item_from, property, part, here, found, on, ends, go_down, go_from, turn}
 use Rattle.flight_place.proofs.Paths.{IsSteady, step_turn}
 use Rattle.flight_link.specs.declared.found.Spot.{Spot}
@@ -65,6 +65,13 @@ step_there rows s at name n fine e st =
     let w = at_all (IsWithin (length h.0.tree.places)) h.0.tree.places s.place at f.within h.2 in
     let less = step_within (length h.0.tree.places) at name n w st in
     (_, ap (option_and_then (λ (r : PlacedRow). slice_get r.tree.places n)) h.1 ∙ slice_get-get_or h.0.tree.places n at less)
+
+-- the names of an object ascend
+pub place_ordered : (rows : List PlacedRow) (s : Spot) (at : Place) → All IsFine rows → place_in rows s ≡ Some at → HasOrder at
+place_ordered rows s at fine e =
+    let h = row_there rows s at e in
+    let f = at_all IsFine rows s.row h.0 fine h.1 in
+    at_all HasOrder h.0.tree.places s.place at f.ordered h.2
 
 -- ---- turns
 

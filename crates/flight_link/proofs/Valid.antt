@@ -275,11 +275,11 @@ promise_label (node.Element a b c) e = cc
 promise_label (node.Stream flow items end) e = cc
 promise_label (node.Action id bound) e = cc
 
-is_promise : (rows : List PlacedRow) (keys : List NodeKey) (nodes : List Node) (n id : ℕ) (key : NodeKey) → AreDrawn rows keys nodes → slice_get keys n ≡ Some key → store.node_at (identity_of key) ≡ store.node_at (promise_of id) → IsPromise (slice_get nodes n)
+is_promise : (rows : List PlacedRow) (keys : List NodeKey) (nodes : List Node) (n id : ℕ) (key : NodeKey) → AreDrawn rows keys nodes → slice_get keys n ≡ Some key → store.node_at (identity_of rows key) ≡ store.node_at (promise_of id) → IsPromise (slice_get nodes n)
 is_promise rows keys nodes n id key drawn at e =
     let x = node_of_key keys nodes n key drawn.all at in
     let d = drawn.each n x.0 x.1 in
-    let same : identity_of d.0 ≡ promise_of id = ap identity_of (same_Some d.0 key (sym d.1 ∙ at)) ∙ same_node (identity_of key) (promise_of id) e in
+    let same : identity_of rows d.0 ≡ promise_of id = ap (identity_of rows) (same_Some d.0 key (sym d.1 ∙ at)) ∙ same_node (identity_of rows key) (promise_of id) e in
     let stands = subst (λ k. HasShape rows k d.2.shape) same d.2.stands in
     subst IsPromise (sym x.1) (promise_label x.0 (d.2.label ∙ ap (λ (s : Shape Written). s.label) stands))
   where
@@ -294,8 +294,8 @@ bound_valid rows keys nodes (slot.Atom a) w drawn b h =
     ]
 bound_valid rows keys nodes (slot.Node n) w drawn b h =
     elim (leads_bound rows w b) [
-      | inl l ↦ absurd (atom_or_node atom.Null (identity_of h.0) (leads_once rows (at_place w) (store.atom atom.Null) (store.node_at (identity_of h.0)) l h.2))
-      | inr l ↦ is_promise rows keys nodes n l.0 h.0 drawn h.1 (leads_once rows (at_place w) (store.node_at (identity_of h.0)) (store.node_at (promise_of l.0)) h.2 l.1)
+      | inl l ↦ absurd (atom_or_node atom.Null (identity_of rows h.0) (leads_once rows (at_place w) (store.atom atom.Null) (store.node_at (identity_of rows h.0)) l h.2))
+      | inr l ↦ is_promise rows keys nodes n l.0 h.0 drawn h.1 (leads_once rows (at_place w) (store.node_at (identity_of rows h.0)) (store.node_at (promise_of l.0)) h.2 l.1)
     ]
 
 -- ---- nodes
@@ -328,7 +328,7 @@ graph_valid rows keys root nodes fine few at drawn = record {
   each = λ i d lt.
       let e = slice_get-get_or nodes i d lt in
       let w = drawn.each i (get_or nodes i d) e in
-      node_valid rows keys nodes (identity_of w.0) (get_or nodes i d) fine drawn w.2;
+      node_valid rows keys nodes (identity_of rows w.0) (get_or nodes i d) fine drawn w.2;
 }
 
 -- ---- the whole
@@ -336,4 +336,4 @@ graph_valid rows keys root nodes fine few at drawn = record {
 pub drawing_right : (rows : List PlacedRow) (d : Drawing) (nodes : List Node) → All IsFine rows → IsDrawing rows d → nodes ≡ d.nodes.items → IsValid (record { root = d.root; nodes = nodes }) × DrawOneGraph (of_graph (record { root = d.root; nodes = nodes })) (meaning.meaning rows)
 drawing_right rows d nodes fine h e =
     let whole : List Node → Type 0 = λ xs. IsValid (record { root = d.root; nodes = xs }) × DrawOneGraph (of_graph (record { root = d.root; nodes = xs })) (meaning.meaning rows) in
-    subst whole (sym e) (graph_valid rows d.keys.items d.root d.nodes.items fine h.few h.root h.drawn, (numbered_from 0 d.keys.items, graph_fits rows d.keys.items d.root d.nodes.items h.root h.drawn h.apart))
+    subst whole (sym e) (graph_valid rows d.keys.items d.root d.nodes.items fine h.few h.root h.drawn, (numbered_from rows 0 d.keys.items, graph_fits rows d.keys.items d.root d.nodes.items h.root h.drawn h.apart))

@@ -17,18 +17,19 @@ use Rattle.flight_place.specs.Meaning.{Written, at_place, value_of, Identity, ma
 use Rattle.flight_link.specs.declared.key.NodeKey.{NodeKey}
 use Rattle.flight_link.specs.declared.key.NodeKey.TheVariants.{Made, Promise, Action}
 use Rattle.flight_link.specs.declared.draw.Drawing.{Drawing}
+use Rattle.flight_link.specs.Nodes.{spot_of}
 use Rattle.flight_link.specs.Origins.{origin_of}
 
 -- what a key stands for
-abbrev pub identity_of : NodeKey → Identity
-identity_of (Made id at) = made_at (record { id = id; nth = 0; at = at })
-identity_of (Promise id) = promise_of id
-identity_of (Action id) = action_of id
+abbrev pub identity_of : List PlacedRow → NodeKey → Identity
+identity_of rows (Made s) = made_at (spot_of rows s)
+identity_of rows (Promise id) = promise_of id
+identity_of rows (Action id) = action_of id
 
 -- a slot has the atom to which the written slot leads, or the number of the node
 abbrev pub Draws : List PlacedRow → List NodeKey → Slot → Written → Type 0
 Draws rows keys (slot.Atom a) w = Leads rows w (store.atom a)
-Draws rows keys (slot.Node n) w = (key : NodeKey) × (slice_get keys n ≡ Some key) × Leads rows w (store.node_at (identity_of key))
+Draws rows keys (slot.Node n) w = (key : NodeKey) × (slice_get keys n ≡ Some key) × Leads rows w (store.node_at (identity_of rows key))
 
 -- slots of the places of these numbers, in the row of a place
 abbrev pub AreSlots : List PlacedRow → List NodeKey → Spot → List Slot → List ℕ → Type 0
@@ -55,31 +56,31 @@ pub record DrawsNode (rows : List PlacedRow) (keys : List NodeKey) (identity : I
 
 -- each node draws what its key stands for, and each key has its node
 pub record AreDrawn (rows : List PlacedRow) (keys : List NodeKey) (nodes : List Node) : Type 0 where
-  pub each : (n : ℕ) (node : Node) → slice_get nodes n ≡ Some node → (key : NodeKey) × (slice_get keys n ≡ Some key) × DrawsNode rows keys (identity_of key) node
+  pub each : (n : ℕ) (node : Node) → slice_get nodes n ≡ Some node → (key : NodeKey) × (slice_get keys n ≡ Some key) × DrawsNode rows keys (identity_of rows key) node
   pub all : length keys ≤ length nodes
 
--- no key stands twice
-abbrev pub AreApart : List NodeKey → Type 0
-AreApart keys = (m n : ℕ) (key : NodeKey) → slice_get keys m ≡ Some key → slice_get keys n ≡ Some key → m ≡ n
+-- no node stands twice
+abbrev pub AreApart : List PlacedRow → List NodeKey → Type 0
+AreApart rows keys = (m n : ℕ) (k l : NodeKey) → slice_get keys m ≡ Some k → slice_get keys n ≡ Some l → identity_of rows k ≡ identity_of rows l → m ≡ n
 
 pub record IsDrawing (rows : List PlacedRow) (d : Drawing) : Type 0 where
   pub root : Draws rows d.keys.items d.root (value_of 0)
   pub drawn : AreDrawn rows d.keys.items d.nodes.items
-  pub apart : AreApart d.keys.items
+  pub apart : AreApart rows d.keys.items
   pub few : length d.nodes.items < 2 ^ 32
 
 abbrev pub graph_in : Drawing → Graph
 graph_in d = record { root = d.root; nodes = d.nodes.items }
 
 -- numbers from i on, with what their keys stand for
-abbrev pub numbered_from : ℕ → List NodeKey → List (ℕ × Identity)
-numbered_from i [] = []
-numbered_from i (key ∷ keys) = (i, identity_of key) ∷ numbered_from (suc i) keys
+abbrev pub numbered_from : List PlacedRow → ℕ → List NodeKey → List (ℕ × Identity)
+numbered_from rows i [] = []
+numbered_from rows i (key ∷ keys) = (i, identity_of rows key) ∷ numbered_from rows (suc i) keys
 
 -- the key of a number; past the keys, which no slot names, some key
 abbrev pub key_of : List NodeKey → ℕ → NodeKey
 key_of keys n = unwrap_or (slice_get keys n) (Promise 0)
 
 -- the id of the row that holds the node of a number
-abbrev pub origin_in : List NodeKey → ℕ → ℕ
-origin_in keys n = origin_of (identity_of (key_of keys n))
+abbrev pub origin_in : List PlacedRow → List NodeKey → ℕ → ℕ
+origin_in rows keys n = origin_of (identity_of rows (key_of keys n))

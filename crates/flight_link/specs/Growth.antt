@@ -1,5 +1,5 @@
 -- How the table grows.
-use Rattle.std.specs.Prelude.{ℕ, false, ◌+◌, ◌≡◌, List, [], ◌++◌, length, slice_get, Option, Some, None, option_and_then}
+use Rattle.std.specs.Prelude.{ℕ, false, ◌+◌, ◌≤◌, ◌≡◌, List, [], ◌++◌, length, slice_get, Option, Some, None, option_and_then}
 use Rattle.flight_place.specs.declared.place.Place.{Place}
 use Rattle.flight_place.specs.Resolve.{Path}
 use Rattle.flight_link.specs.declared.found.Spot.{Spot}
@@ -46,7 +46,7 @@ abbrev pub number_in : List (Option ℕ) → ℕ → Option ℕ
 number_in index n = option_and_then (λ o. o) (slice_get index n)
 
 pub record AreFresh (starts : List Start) (row : ℕ) (places : List Place) (f : Fresh) : Type 0 where
-  pub one_each : length f.index.items ≡ length places
+  pub few : length f.index.items ≤ length places
   pub same_count : length f.states.items ≡ length f.starts.items
   pub placed : (n : ℕ) (at : Place) → slice_get places n ≡ Some at → IsFreshAt starts f.starts.items (record { row = row; place = n }) (followed at) (number_in f.index.items n)
   pub nodes : (j : ℕ) (start : Start) (state : State) → slice_get f.starts.items j ≡ Some start → slice_get f.states.items j ≡ Some state → IsFreshNode starts row places start state

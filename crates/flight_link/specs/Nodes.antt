@@ -1,5 +1,5 @@
 -- The table of nodes: for each id and for each place that is followed, where its walk stands.
-use Rattle.std.specs.Prelude.{ℕ, zero, suc, nat_eq, ◌-◌, ◌<◌, ◌≤◌, ◌≡◌, Bool, true, false, List, [], ◌∷◌, ◌++◌, length, drop, slice_get, Option, Some, None, option_and_then, option_map, unwrap_or, All}
+use Rattle.std.specs.Prelude.{ℕ, zero, suc, ◌-◌, ◌<◌, ◌≤◌, ◌≡◌, Bool, true, false, List, [], ◌∷◌, ◌++◌, length, drop, slice_get, Option, Some, None, option_and_then, option_map, unwrap_or, All}
 use Rattle.flight_value.specs.declared.graph.Atom.TheVariants as atom
 use Rattle.flight_place.specs.declared.place.Place.{Place}
 use Rattle.flight_place.specs.declared.place.Place.TheVariants as place
@@ -15,11 +15,11 @@ use Rattle.flight_link.specs.declared.node.Start.{Start}
 use Rattle.flight_link.specs.declared.node.Start.TheVariants.{Id, Place as AtPlace}
 use Rattle.flight_link.specs.declared.node.State.{State}
 use Rattle.flight_link.specs.declared.node.Loose.{Loose}
-use Rattle.flight_link.specs.declared.table.Known.{Known}
+use Rattle.flight_link.specs.declared.ids.Known.{Known}
 use Rattle.flight_link.specs.declared.table.Table.{Table}
 use Rattle.flight_link.specs.declared.table.Step.{Step}
 use Rattle.flight_link.specs.declared.table.Step.TheVariants.{Stops, Leaves, To, Meets}
-use Rattle.std.specs.HashMap.{get}
+use Rattle.flight_link.specs.Known.{known_of}
 use Rattle.flight_link.specs.declared.node.State.TheVariants.{Absent, Ended, Lost, Behind}
 
 -- ---- the rows that are linked
@@ -217,8 +217,8 @@ pub record IsTable (t : Table) : Type 0 where
   pub fine : All IsFine t.rows.items
   pub starts : AreStarts t.rows.items t.starts.items
   pub indexed : AreIndexed t.rows.items t.starts.items t.index.items
-  pub known : (id : ℕ) → IsKnown t.rows.items t.starts.items id (get nat_eq t.known id)
-  pub ids : (n id : ℕ) → IsNodeAt t.starts.items n (Id id) → IsItsNode n (get nat_eq t.known id)
+  pub known : (id : ℕ) → IsKnown t.rows.items t.starts.items id (known_of t.known id)
+  pub ids : (n id : ℕ) → IsNodeAt t.starts.items n (Id id) → IsItsNode n (known_of t.known id)
   pub one_each : length t.index.items ≡ length t.rows.items
 
 -- ---- single steps

@@ -81,9 +81,10 @@ impl Backlog {
 }
 
 /// Appends empty cells up to a count.
-fn reach(cells: &mut Vec<Option<u32>>, count: usize) -> Result<(), Memory>
+pub fn reach(cells: &mut Vec<Option<u32>>, count: usize) -> Result<(), Memory>
     ensures same { (n : ℕ) → cell cells.new.items n ≡ cell cells.old.items n }
     ensures count { OnOk result (count ≤ length cells.new.items) }
+    ensures exact { length cells.old.items ≤ count → OnOk result (length cells.new.items ≡ count) }
 {
     let missing = count.saturating_sub(cells.len());
     'cells: for _ in 0..missing {
@@ -92,7 +93,7 @@ fn reach(cells: &mut Vec<Option<u32>>, count: usize) -> Result<(), Memory>
     Ok(())
 }
 
-fn cell_at(cells: &[Option<u32>], node: u32) -> Option<u32>
+pub fn cell_at(cells: &[Option<u32>], node: u32) -> Option<u32>
     ensures { result ≡ cell cells.now node }
 {
     match cells.get(node as usize) {
@@ -110,7 +111,7 @@ fn queue(ended: &mut Vec<u32>, node: u32)
     let _ = ended.push(node);
 }
 
-fn put_cell(cells: &mut Vec<Option<u32>>, node: u32, next: Option<u32>)
+pub fn put_cell(cells: &mut Vec<Option<u32>>, node: u32, next: Option<u32>)
     requires { node < length cells.old.items }
     ensures { cells.new.items ≡ slice_set cells.old.items node next }
 {

@@ -145,7 +145,7 @@ impl Table {
         ensures bound { IsBound self.now.rows.items id result }
         ensures there { IsThere self.now.rows.items result }
     {
-        match self.known.get(&id) {
+        match self.known.get(id) {
             Some(known) => match known.row {
                 Some(row) => self.property(Spot { row, place: 0 }, "bound"),
                 None => None,

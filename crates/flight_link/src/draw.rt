@@ -1,27 +1,36 @@
 ghost use Rattle.std.specs.Prelude.{◌≡◌, ◌<◌, ◌^◌, ◌∷◌, [], IfOk, IfSome, OnOk, length, true, Some};
 ghost use Rattle.flight_place.specs.declared.place.Place.TheVariants as place;
-ghost use Rattle.flight_place.specs.Linked as linked;
-ghost use Rattle.flight_place.specs.Linked.{beside as place_beside};
-ghost use Rattle.flight_link.specs.Spots.{IsSpot};
+ghost use Rattle.flight_place.specs.Linked.{beside as place_beside, first_place};
 ghost use Rattle.flight_value.specs.Graph.{IsValid};
+ghost use Rattle.flight_value.specs.Store as store;
 ghost use Rattle.flight_value.specs.Store.{DrawOneGraph, of_graph};
-ghost use Rattle.flight_place.specs.Meaning.{meaning, Written, at_place, made_at, action_of};
-ghost use Rattle.flight_link.specs.Nodes.{AreLinked, IsTable, place_in, spot_of};
-ghost use Rattle.flight_link.specs.Numbering.{AreNumbered, Grows};
+ghost use Rattle.flight_place.specs.Meaning.{meaning, Leads, Written, at_place, made_at, action_of};
+ghost use Rattle.flight_link.specs.Marks.{AreBases, IsWhole};
+ghost use Rattle.flight_link.specs.Nodes.{IsTable, place_in, spot_of};
+ghost use Rattle.flight_link.specs.Slots.{IsTargetOfSome};
+ghost use Rattle.flight_link.specs.Numbering.{AreNumbered, Grows, IsKey};
 ghost use Rattle.flight_link.specs.Targets.{IsTargetOf};
 ghost use Rattle.flight_link.specs.Drawing.{identity_of, Draws, AreSlots, AreProps, IsPairAt, ArePairs, DrawsNode, AreDrawn, IsDrawing};
 
 use crate::found::Spot;
 use crate::key::NodeKey;
+use crate::mention::Bases;
 use crate::node::State;
 use crate::numbers::Numbers;
 use crate::step::property_of;
-use crate::table::{Table, row_at};
+use crate::table::Table;
 use crate::target::Target;
 use flight_place::{Named, Place};
 use flight_text::Ref;
 use flight_value::{Atom, Graph, List, Memory, Node, Pair, Prop, Slot};
 use std::alloc::Global;
+
+/// What is known beside a table: where the walks of its nodes stand, and how many places stand before each row.
+#[derive(Clone, Copy)]
+pub struct Whole<'a> {
+    pub states: &'a [State],
+    pub bases: Bases<'a>,
+}
 
 /// The graph that rows draw, with the key of each node.
 #[derive(Drop)]
@@ -33,11 +42,11 @@ pub struct Drawing {
 
 impl Table {
     /// What the rows mean, as a graph.
-    pub fn graph(&self, states: &[State], alloc: Global) -> Result<Graph, Memory>
-        requires { AreLinked self.now states.now }
+    pub fn graph(&self, whole: Whole<'_>, alloc: Global) -> Result<Graph, Memory>
+        requires { IsWhole self.now whole.states.now whole.bases.before.now whole.bases.total }
         ensures { IfOk result (λ g. IsValid g × DrawOneGraph (of_graph g) (meaning self.now.rows.items)) }
     {
-        let drawing = self.draw(states, alloc)?;
+        let drawing = self.draw(whole, alloc)?;
         Ok(Graph {
             root: drawing.root,
             nodes: List::new(drawing.nodes),
@@ -45,13 +54,13 @@ impl Table {
     }
 
     /// The graph of the nodes to which the value of row 0 leads.
-    pub fn draw(&self, states: &[State], alloc: Global) -> Result<Drawing, Memory>
-        requires { AreLinked self.now states.now }
+    pub fn draw(&self, whole: Whole<'_>, alloc: Global) -> Result<Drawing, Memory>
+        requires { IsWhole self.now whole.states.now whole.bases.before.now whole.bases.total }
         ensures { IfOk result (IsDrawing self.now.rows.items) }
     {
-        let mut numbers = Numbers::new(alloc);
-        let root = self.slot_to(&mut numbers, self.target_of(states, 0))?;
-        let nodes = self.nodes(states, alloc, &mut numbers)?;
+        let mut numbers = Numbers::new(alloc, whole.bases.total)?;
+        let root = self.slot_to(whole.bases, &mut numbers, self.target_of(whole.states, 0))?;
+        let nodes = self.nodes(whole, alloc, &mut numbers)?;
         within(nodes.len())?;
         let Numbers { keys, .. } = numbers;
         Ok(Drawing { root, nodes, keys })
@@ -61,13 +70,13 @@ impl Table {
     #[tactic(auto, using(crate::proofs::Drawing::drawn_all))]
     fn nodes(
         &self,
-        states: &[State],
+        whole: Whole<'_>,
         alloc: Global,
         numbers: &mut Numbers,
     ) -> Result<Vec<Node>, Memory>
-        requires linked { AreLinked self.now states.now }
-        requires numbered { AreNumbered numbers.old }
-        ensures numbered { OnOk result (AreNumbered numbers.new) }
+        requires whole { IsWhole self.now whole.states.now whole.bases.before.now whole.bases.total }
+        requires numbered { AreNumbered self.now.rows.items numbers.old }
+        ensures numbered { OnOk result (AreNumbered self.now.rows.items numbers.new) }
         ensures grows { OnOk result (Grows numbers.old.keys.items numbers.new.keys.items) }
         ensures drawn { IfOk result (λ nodes. AreDrawn self.now.rows.items numbers.new.keys.items nodes.items) }
     {
@@ -76,168 +85,152 @@ impl Table {
             let Some(key) = numbers.key(nodes.len()) else {
                 return Ok(nodes);
             };
-            nodes.push(self.node_of(states, alloc, numbers, key)?)?;
+            nodes.push(self.node_of(whole, alloc, numbers, key)?)?;
         }
         Err(Memory)
     }
 
     /// The node of a key.
-    #[tactic(auto, using(crate::proofs::Drawing::promise_node, crate::proofs::Drawing::same_identity))]
+    #[tactic(auto, using(crate::proofs::Drawing::promise_node))]
     fn node_of(
         &self,
-        states: &[State],
+        whole: Whole<'_>,
         alloc: Global,
         numbers: &mut Numbers,
         key: NodeKey,
     ) -> Result<Node, Memory>
-        requires linked { AreLinked self.now states.now }
-        requires numbered { AreNumbered numbers.old }
-        ensures numbered { OnOk result (AreNumbered numbers.new) }
+        requires whole { IsWhole self.now whole.states.now whole.bases.before.now whole.bases.total }
+        requires numbered { AreNumbered self.now.rows.items numbers.old }
+        ensures numbered { OnOk result (AreNumbered self.now.rows.items numbers.new) }
         ensures grows { OnOk result (Grows numbers.old.keys.items numbers.new.keys.items) }
-        ensures node { IfOk result (DrawsNode self.now.rows.items numbers.new.keys.items (identity_of key)) }
+        ensures node { IfOk result (DrawsNode self.now.rows.items numbers.new.keys.items (identity_of self.now.rows.items key)) }
     {
         match key {
-            NodeKey::Made { id, place } => match self.spot(id, place) {
-                Some(spot) => self.node_at(states, alloc, numbers, spot),
-                None => Err(Memory),
-            },
+            NodeKey::Made(spot) => self.node_at(whole, alloc, numbers, spot),
             NodeKey::Promise(id) => {
-                let outcome = self.slot_to(numbers, self.target_of(states, id))?;
+                let outcome = self.slot_to(whole.bases, numbers, self.target_of(whole.states, id))?;
                 Ok(Node::Promise(outcome))
             }
-            NodeKey::Action(id) => self.action(states, numbers, id),
-        }
-    }
-
-    /// A place of the row of an id.
-    fn spot(&self, id: u32, place: u32) -> Option<Spot>
-        requires { IsTable self.now }
-        ensures { IfSome result (λ s. made_at (spot_of self.now.rows.items s) ≡ identity_of (NodeKey.Made id place)) }
-    {
-        match self.known.get(&id) {
-            Some(known) => match known.row {
-                Some(row) => Some(Spot { row, place }),
-                None => None,
-            },
-            None => None,
+            NodeKey::Action(id) => self.action(whole, numbers, id),
         }
     }
 
     /// The node at a place. No key names a place without one.
     fn node_at(
         &self,
-        states: &[State],
+        whole: Whole<'_>,
         alloc: Global,
         numbers: &mut Numbers,
         spot: Spot,
     ) -> Result<Node, Memory>
-        requires linked { AreLinked self.now states.now }
-        requires numbered { AreNumbered numbers.old }
-        ensures numbered { OnOk result (AreNumbered numbers.new) }
+        requires whole { IsWhole self.now whole.states.now whole.bases.before.now whole.bases.total }
+        requires numbered { AreNumbered self.now.rows.items numbers.old }
+        ensures numbered { OnOk result (AreNumbered self.now.rows.items numbers.new) }
         ensures grows { OnOk result (Grows numbers.old.keys.items numbers.new.keys.items) }
         ensures node { IfOk result (DrawsNode self.now.rows.items numbers.new.keys.items (made_at (spot_of self.now.rows.items spot))) }
     {
         match self.place(spot) {
             Some(Place::Array(places)) => {
-                self.array(states, alloc, numbers, spot, places.as_slice())
+                self.array(whole, alloc, numbers, spot, places.as_slice())
             }
             Some(Place::Object(props)) => {
-                self.object(states, alloc, numbers, spot, props.as_slice())
+                self.object(whole, alloc, numbers, spot, props.as_slice())
             }
             Some(Place::Element { tag, key, props }) => {
-                self.element(states, numbers, spot, *tag, *key, *props)
+                self.element(whole, numbers, spot, *tag, *key, *props)
             }
-            Some(Place::Map(at)) => self.map(states, alloc, numbers, spot, at),
-            Some(Place::Set(at)) => self.set(states, alloc, numbers, spot, at),
+            Some(Place::Map(at)) => self.map(whole, alloc, numbers, spot, at),
+            Some(Place::Set(at)) => self.set(whole, alloc, numbers, spot, at),
             _ => Err(Memory),
         }
     }
 
     fn array(
         &self,
-        states: &[State],
+        whole: Whole<'_>,
         alloc: Global,
         numbers: &mut Numbers,
         spot: Spot,
         places: &[u32],
     ) -> Result<Node, Memory>
-        requires linked { AreLinked self.now states.now }
-        requires numbered { AreNumbered numbers.old }
+        requires whole { IsWhole self.now whole.states.now whole.bases.before.now whole.bases.total }
+        requires numbered { AreNumbered self.now.rows.items numbers.old }
         requires place { place_in self.now.rows.items spot ≡ Some (place.Array places.now) }
-        ensures numbered { OnOk result (AreNumbered numbers.new) }
+        ensures numbered { OnOk result (AreNumbered self.now.rows.items numbers.new) }
         ensures grows { OnOk result (Grows numbers.old.keys.items numbers.new.keys.items) }
         ensures node { IfOk result (DrawsNode self.now.rows.items numbers.new.keys.items (made_at (spot_of self.now.rows.items spot))) }
     {
-        let slots = self.slots(states, alloc, numbers, spot, places)?;
+        let slots = self.slots(whole, alloc, numbers, spot, places)?;
         within(slots.len())?;
         Ok(Node::Array(List::new(slots)))
     }
 
     fn object(
         &self,
-        states: &[State],
+        whole: Whole<'_>,
         alloc: Global,
         numbers: &mut Numbers,
         spot: Spot,
         named: &[Named],
     ) -> Result<Node, Memory>
-        requires linked { AreLinked self.now states.now }
-        requires numbered { AreNumbered numbers.old }
+        requires whole { IsWhole self.now whole.states.now whole.bases.before.now whole.bases.total }
+        requires numbered { AreNumbered self.now.rows.items numbers.old }
         requires place { place_in self.now.rows.items spot ≡ Some (place.Object named.now) }
-        ensures numbered { OnOk result (AreNumbered numbers.new) }
+        ensures numbered { OnOk result (AreNumbered self.now.rows.items numbers.new) }
         ensures grows { OnOk result (Grows numbers.old.keys.items numbers.new.keys.items) }
         ensures node { IfOk result (DrawsNode self.now.rows.items numbers.new.keys.items (made_at (spot_of self.now.rows.items spot))) }
     {
-        let props = self.props(states, alloc, numbers, spot, named)?;
+        let props = self.props(whole, alloc, numbers, spot, named)?;
         within(props.len())?;
         Ok(Node::Object(List::new(props)))
     }
 
     fn element(
         &self,
-        states: &[State],
+        whole: Whole<'_>,
         numbers: &mut Numbers,
         spot: Spot,
         tag: u32,
         key: u32,
         props: u32,
     ) -> Result<Node, Memory>
-        requires linked { AreLinked self.now states.now }
-        requires numbered { AreNumbered numbers.old }
+        requires whole { IsWhole self.now whole.states.now whole.bases.before.now whole.bases.total }
+        requires numbered { AreNumbered self.now.rows.items numbers.old }
         requires place { place_in self.now.rows.items spot ≡ Some (place.Element tag key props) }
-        ensures numbered { OnOk result (AreNumbered numbers.new) }
+        ensures numbered { OnOk result (AreNumbered self.now.rows.items numbers.new) }
         ensures grows { OnOk result (Grows numbers.old.keys.items numbers.new.keys.items) }
         ensures node { IfOk result (DrawsNode self.now.rows.items numbers.new.keys.items (made_at (spot_of self.now.rows.items spot))) }
     {
-        let tag = self.slot_beside(states, numbers, spot, tag)?;
-        let key = self.slot_beside(states, numbers, spot, key)?;
-        let props = self.slot_beside(states, numbers, spot, props)?;
+        let tag = self.slot_beside(whole, numbers, spot, tag)?;
+        let key = self.slot_beside(whole, numbers, spot, key)?;
+        let props = self.slot_beside(whole, numbers, spot, props)?;
         Ok(Node::Element { tag, key, props })
     }
 
     /// The Map whose entries stand where its reference leads. No key names one without entries.
     fn map(
         &self,
-        states: &[State],
+        whole: Whole<'_>,
         alloc: Global,
         numbers: &mut Numbers,
         spot: Spot,
         reference: &Ref,
     ) -> Result<Node, Memory>
-        requires linked { AreLinked self.now states.now }
-        requires numbered { AreNumbered numbers.old }
+        requires whole { IsWhole self.now whole.states.now whole.bases.before.now whole.bases.total }
+        requires numbered { AreNumbered self.now.rows.items numbers.old }
         requires place { place_in self.now.rows.items spot ≡ Some (place.Map reference.now) }
-        ensures numbered { OnOk result (AreNumbered numbers.new) }
+        ensures numbered { OnOk result (AreNumbered self.now.rows.items numbers.new) }
         ensures grows { OnOk result (Grows numbers.old.keys.items numbers.new.keys.items) }
         ensures node { IfOk result (DrawsNode self.now.rows.items numbers.new.keys.items (made_at (spot_of self.now.rows.items spot))) }
     {
-        let State::Ended(end) = self.resolve(states, reference.id, reference.path.as_slice()) else {
+        let State::Ended(end) = self.resolve(whole.states, reference.id, reference.path.as_slice())
+        else {
             return Err(Memory);
         };
         let Some(Place::Array(places)) = self.place(end) else {
             return Err(Memory);
         };
-        let pairs = self.pairs(states, alloc, numbers, end, places.as_slice())?;
+        let pairs = self.pairs(whole, alloc, numbers, end, places.as_slice())?;
         within_half(pairs.len())?;
         Ok(Node::Map(List::new(pairs)))
     }
@@ -245,43 +238,44 @@ impl Table {
     /// The Set whose items stand where its reference leads. No key names one without items.
     fn set(
         &self,
-        states: &[State],
+        whole: Whole<'_>,
         alloc: Global,
         numbers: &mut Numbers,
         spot: Spot,
         reference: &Ref,
     ) -> Result<Node, Memory>
-        requires linked { AreLinked self.now states.now }
-        requires numbered { AreNumbered numbers.old }
+        requires whole { IsWhole self.now whole.states.now whole.bases.before.now whole.bases.total }
+        requires numbered { AreNumbered self.now.rows.items numbers.old }
         requires place { place_in self.now.rows.items spot ≡ Some (place.Set reference.now) }
-        ensures numbered { OnOk result (AreNumbered numbers.new) }
+        ensures numbered { OnOk result (AreNumbered self.now.rows.items numbers.new) }
         ensures grows { OnOk result (Grows numbers.old.keys.items numbers.new.keys.items) }
         ensures node { IfOk result (DrawsNode self.now.rows.items numbers.new.keys.items (made_at (spot_of self.now.rows.items spot))) }
     {
-        let State::Ended(end) = self.resolve(states, reference.id, reference.path.as_slice()) else {
+        let State::Ended(end) = self.resolve(whole.states, reference.id, reference.path.as_slice())
+        else {
             return Err(Memory);
         };
         let Some(Place::Array(places)) = self.place(end) else {
             return Err(Memory);
         };
-        let slots = self.slots(states, alloc, numbers, end, places.as_slice())?;
+        let slots = self.slots(whole, alloc, numbers, end, places.as_slice())?;
         within(slots.len())?;
         Ok(Node::Set(List::new(slots)))
     }
 
     /// The server reference that the row of an id describes. No key names one that has none.
     #[tactic(auto, using(crate::proofs::Actions::action_node))]
-    fn action(&self, states: &[State], numbers: &mut Numbers, id: u32) -> Result<Node, Memory>
-        requires linked { AreLinked self.now states.now }
-        requires numbered { AreNumbered numbers.old }
-        ensures numbered { OnOk result (AreNumbered numbers.new) }
+    fn action(&self, whole: Whole<'_>, numbers: &mut Numbers, id: u32) -> Result<Node, Memory>
+        requires whole { IsWhole self.now whole.states.now whole.bases.before.now whole.bases.total }
+        requires numbered { AreNumbered self.now.rows.items numbers.old }
+        ensures numbered { OnOk result (AreNumbered self.now.rows.items numbers.new) }
         ensures grows { OnOk result (Grows numbers.old.keys.items numbers.new.keys.items) }
         ensures node { IfOk result (DrawsNode self.now.rows.items numbers.new.keys.items (action_of id)) }
     {
         if !self.has_reference(id) {
             return Err(Memory);
         }
-        let Some(spot) = self.spot(id, 0) else {
+        let Some(spot) = self.root_of(id) else {
             return Err(Memory);
         };
         let Some(Place::Object(props)) = self.place(spot) else {
@@ -296,31 +290,45 @@ impl Table {
         let Some(Place::Atom(Atom::Text(text))) = self.place(beside(spot, name)) else {
             return Err(Memory);
         };
-        let bound = self.slot_beside(states, numbers, spot, bound)?;
+        let bound = self.slot_beside(whole, numbers, spot, bound)?;
         Ok(Node::Action {
             id: text.clone()?,
             bound,
         })
     }
 
+    /// The root of the row of an id.
+    fn root_of(&self, id: u32) -> Option<Spot>
+        requires { IsTable self.now }
+        ensures { IfSome result (λ s. spot_of self.now.rows.items s ≡ first_place id) }
+    {
+        match self.known.get(id) {
+            Some(known) => match known.row {
+                Some(row) => Some(Spot { row, place: 0 }),
+                None => None,
+            },
+            None => None,
+        }
+    }
+
     /// Slots of places of a row.
     fn slots(
         &self,
-        states: &[State],
+        whole: Whole<'_>,
         alloc: Global,
         numbers: &mut Numbers,
         spot: Spot,
         places: &[u32],
     ) -> Result<Vec<Slot>, Memory>
-        requires linked { AreLinked self.now states.now }
-        requires numbered { AreNumbered numbers.old }
-        ensures numbered { OnOk result (AreNumbered numbers.new) }
+        requires whole { IsWhole self.now whole.states.now whole.bases.before.now whole.bases.total }
+        requires numbered { AreNumbered self.now.rows.items numbers.old }
+        ensures numbered { OnOk result (AreNumbered self.now.rows.items numbers.new) }
         ensures grows { OnOk result (Grows numbers.old.keys.items numbers.new.keys.items) }
         ensures slots { IfOk result (λ slots. AreSlots self.now.rows.items numbers.new.keys.items (spot_of self.now.rows.items spot) slots.items places.now) }
     {
-        let mut slots = Vec::new(alloc);
+        let mut slots = Vec::with_capacity(alloc, places.len())?;
         for place in places {
-            slots.push(self.slot_beside(states, numbers, spot, *place)?)?;
+            slots.push(self.slot_beside(whole, numbers, spot, *place)?)?;
         }
         Ok(slots)
     }
@@ -328,21 +336,21 @@ impl Table {
     /// Properties of places of a row.
     fn props(
         &self,
-        states: &[State],
+        whole: Whole<'_>,
         alloc: Global,
         numbers: &mut Numbers,
         spot: Spot,
         named: &[Named],
     ) -> Result<Vec<Prop>, Memory>
-        requires linked { AreLinked self.now states.now }
-        requires numbered { AreNumbered numbers.old }
-        ensures numbered { OnOk result (AreNumbered numbers.new) }
+        requires whole { IsWhole self.now whole.states.now whole.bases.before.now whole.bases.total }
+        requires numbered { AreNumbered self.now.rows.items numbers.old }
+        ensures numbered { OnOk result (AreNumbered self.now.rows.items numbers.new) }
         ensures grows { OnOk result (Grows numbers.old.keys.items numbers.new.keys.items) }
         ensures props { IfOk result (λ props. AreProps self.now.rows.items numbers.new.keys.items (spot_of self.now.rows.items spot) props.items named.now) }
     {
-        let mut props = Vec::new(alloc);
+        let mut props = Vec::with_capacity(alloc, named.len())?;
         for prop in named {
-            let slot = self.slot_beside(states, numbers, spot, prop.place)?;
+            let slot = self.slot_beside(whole, numbers, spot, prop.place)?;
             let name = prop.name.clone()?;
             props.push(Prop { name, slot })?;
         }
@@ -352,21 +360,21 @@ impl Table {
     /// Entries that stand at places of a row.
     fn pairs(
         &self,
-        states: &[State],
+        whole: Whole<'_>,
         alloc: Global,
         numbers: &mut Numbers,
         spot: Spot,
         places: &[u32],
     ) -> Result<Vec<Pair>, Memory>
-        requires linked { AreLinked self.now states.now }
-        requires numbered { AreNumbered numbers.old }
-        ensures numbered { OnOk result (AreNumbered numbers.new) }
+        requires whole { IsWhole self.now whole.states.now whole.bases.before.now whole.bases.total }
+        requires numbered { AreNumbered self.now.rows.items numbers.old }
+        ensures numbered { OnOk result (AreNumbered self.now.rows.items numbers.new) }
         ensures grows { OnOk result (Grows numbers.old.keys.items numbers.new.keys.items) }
         ensures pairs { IfOk result (λ pairs. ArePairs self.now.rows.items numbers.new.keys.items (spot_of self.now.rows.items spot) pairs.items places.now) }
     {
-        let mut pairs = Vec::new(alloc);
+        let mut pairs = Vec::with_capacity(alloc, places.len())?;
         for place in places {
-            pairs.push(self.pair(states, numbers, spot, *place)?)?;
+            pairs.push(self.pair(whole, numbers, spot, *place)?)?;
         }
         Ok(pairs)
     }
@@ -386,79 +394,87 @@ impl Table {
 
     fn pair(
         &self,
-        states: &[State],
+        whole: Whole<'_>,
         numbers: &mut Numbers,
         spot: Spot,
         place: u32,
     ) -> Result<Pair, Memory>
-        requires linked { AreLinked self.now states.now }
-        requires numbered { AreNumbered numbers.old }
-        ensures numbered { OnOk result (AreNumbered numbers.new) }
+        requires whole { IsWhole self.now whole.states.now whole.bases.before.now whole.bases.total }
+        requires numbered { AreNumbered self.now.rows.items numbers.old }
+        ensures numbered { OnOk result (AreNumbered self.now.rows.items numbers.new) }
         ensures grows { OnOk result (Grows numbers.old.keys.items numbers.new.keys.items) }
         ensures pair { IfOk result (λ pair. IsPairAt self.now.rows.items numbers.new.keys.items (spot_of self.now.rows.items spot) pair place) }
     {
         let Some((key, value)) = self.two_at(beside(spot, place)) else {
             return Err(Memory);
         };
-        let key = self.slot_beside(states, numbers, spot, key)?;
-        let value = self.slot_beside(states, numbers, spot, value)?;
+        let key = self.slot_beside(whole, numbers, spot, key)?;
+        let value = self.slot_beside(whole, numbers, spot, value)?;
         Ok(Pair { key, value })
     }
 
     /// The slot that is written at another place of a row. Each number in a row is that of a place.
     fn slot_beside(
         &self,
-        states: &[State],
+        whole: Whole<'_>,
         numbers: &mut Numbers,
         spot: Spot,
         place: u32,
     ) -> Result<Slot, Memory>
-        requires linked { AreLinked self.now states.now }
-        requires numbered { AreNumbered numbers.old }
-        ensures numbered { OnOk result (AreNumbered numbers.new) }
+        requires whole { IsWhole self.now whole.states.now whole.bases.before.now whole.bases.total }
+        requires numbered { AreNumbered self.now.rows.items numbers.old }
+        ensures numbered { OnOk result (AreNumbered self.now.rows.items numbers.new) }
         ensures grows { OnOk result (Grows numbers.old.keys.items numbers.new.keys.items) }
         ensures slot { IfOk result (λ slot. Draws self.now.rows.items numbers.new.keys.items slot (at_place (place_beside (spot_of self.now.rows.items spot) place))) }
     {
         let at = beside(spot, place);
-        let Some(_) = self.place(at) else {
+        let Some(written) = self.place(at) else {
             return Err(Memory);
         };
-        let slot = self.slot_to(numbers, self.target_at(states, at))?;
-        Ok(slot)
-    }
-
-    /// The key of the node at a place.
-    fn key_at(&self, spot: Spot) -> Option<NodeKey>
-        requires { IsTable self.now }
-        ensures { IfSome result (λ key. (s : linked.Spot) → IsSpot self.now.rows.items spot s → made_at s ≡ identity_of key) }
-    {
-        match row_at(self.rows.as_slice(), spot.row as usize) {
-            Some(row) => Some(NodeKey::Made {
-                id: row.id,
-                place: spot.place,
-            }),
-            None => None,
-        }
+        let target = self.target_written(whole.states, at, written);
+        self.slot_to(whole.bases, numbers, target)
     }
 
     /// The slot that leads to a target.
-    fn slot_to(&self, numbers: &mut Numbers, target: Target<'_>) -> Result<Slot, Memory>
+    fn slot_to(
+        &self,
+        bases: Bases<'_>,
+        numbers: &mut Numbers,
+        target: Target<'_>,
+    ) -> Result<Slot, Memory>
         requires table { IsTable self.now }
-        requires numbered { AreNumbered numbers.old }
-        ensures numbered { OnOk result (AreNumbered numbers.new) }
+        requires bases { AreBases self.now.rows.items bases.before.now bases.total }
+        requires numbered { AreNumbered self.now.rows.items numbers.old }
+        requires target { IsTargetOfSome self.now.rows.items target }
+        ensures numbered { OnOk result (AreNumbered self.now.rows.items numbers.new) }
         ensures grows { OnOk result (Grows numbers.old.keys.items numbers.new.keys.items) }
         ensures slot { IfOk result (λ slot. (w : Written) → IsTargetOf self.now.rows.items w target.entry → Draws self.now.rows.items numbers.new.keys.items slot w) }
     {
         match target {
             Target::Atom(atom) => Ok(Slot::Atom(atom.copy()?)),
-            Target::Node(spot) => match self.key_at(spot) {
-                Some(key) => Ok(Slot::Node(numbers.number(key)?)),
-                None => Err(Memory),
-            },
-            Target::Promise(id) => Ok(Slot::Node(numbers.number(NodeKey::Promise(id))?)),
-            Target::Action(id) => Ok(Slot::Node(numbers.number(NodeKey::Action(id))?)),
+            Target::Node(spot) => self.node_slot(bases, numbers, NodeKey::Made(spot)),
+            Target::Promise(id) => self.node_slot(bases, numbers, NodeKey::Promise(id)),
+            Target::Action(id) => self.node_slot(bases, numbers, NodeKey::Action(id)),
             Target::Awaits(_) | Target::Lost => Ok(Slot::Atom(Atom::Pending)),
         }
+    }
+
+    /// The slot that leads to the node of a key.
+    fn node_slot(
+        &self,
+        bases: Bases<'_>,
+        numbers: &mut Numbers,
+        key: NodeKey,
+    ) -> Result<Slot, Memory>
+        requires table { IsTable self.now }
+        requires bases { AreBases self.now.rows.items bases.before.now bases.total }
+        requires numbered { AreNumbered self.now.rows.items numbers.old }
+        requires key { IsKey self.now.rows.items key }
+        ensures numbered { OnOk result (AreNumbered self.now.rows.items numbers.new) }
+        ensures grows { OnOk result (Grows numbers.old.keys.items numbers.new.keys.items) }
+        ensures slot { IfOk result (λ slot. (w : Written) → Leads self.now.rows.items w (store.node_at (identity_of self.now.rows.items key)) → Draws self.now.rows.items numbers.new.keys.items slot w) }
+    {
+        Ok(Slot::Node(self.number_key(bases, numbers, key)?))
     }
 }
 

@@ -35,7 +35,7 @@ impl Table {
         requires { AreLinked self.now states.now }
         ensures { IsResolved self.now states.now id names.now result }
     {
-        match self.known.get(&id) {
+        match self.known.get(id) {
             Some(known) => self.advance(states, known.node, names),
             None => State::Absent,
         }

@@ -4,6 +4,7 @@ ghost use Rattle.flight_link.specs.Growth.{AreFresh};
 ghost use Rattle.flight_place.specs.declared.place.Place.{Place};
 ghost use Rattle.std.specs.Prelude.{List};
 
+use crate::backlog::reach;
 use crate::found::Spot;
 use crate::node::{Start, State};
 use crate::step::walk_of;
@@ -15,7 +16,7 @@ use std::alloc::Global;
 /// The nodes of a row that is still to come.
 #[derive(Drop)]
 pub struct Fresh {
-    /// For each place its node, if it is followed.
+    /// For each place its node, if it is followed. It ends behind the last that is, so most rows have none at all.
     pub index: Vec<Option<u32>>,
     pub starts: Vec<Start>,
     pub states: Vec<State>,
@@ -46,16 +47,16 @@ impl Table {
         ensures { (places : List Place) → AreFresh self.now.starts.items spot.row places fresh.old → spot.place ≡ length places → OnOk result (AreFresh self.now.starts.items spot.row (places ++ place.now ∷ []) fresh.new) }
     {
         let Some((id, names)) = walk_of(place) else {
-            fresh.index.push(None)?;
             return Ok(());
         };
         // Each id that is named has a node by now.
-        let Some(known) = self.known.get(&id) else {
+        let Some(known) = self.known.get(id) else {
             return Err(Memory);
         };
         let Ok(number) = u32::try_from(self.starts.len().saturating_add(fresh.starts.len())) else {
             return Err(Memory);
         };
+        reach(&mut fresh.index, spot.place as usize)?;
         fresh.index.push(Some(number))?;
         fresh.starts.push(Start::Place(spot))?;
         fresh.states.push(State::Behind {

@@ -18,6 +18,7 @@ mod fault;
 mod find;
 mod found;
 mod fresh;
+mod ids;
 mod key;
 mod law;
 mod links;

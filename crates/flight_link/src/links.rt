@@ -11,8 +11,10 @@ ghost use Rattle.flight_link.specs.Finding.{IsFound};
 ghost use Rattle.flight_link.specs.Origins.{AreOrigins};
 
 use crate::backlog::Backlog;
+use crate::draw::Whole;
 use crate::fault::{LinkFault, LinkKind};
 use crate::found::{Found, Seen};
+use crate::ids::Ids;
 use crate::mention::Bases;
 use crate::node::State;
 use crate::room::put_last;
@@ -22,7 +24,6 @@ use flight_row::RowKind;
 use flight_text::Ref;
 use flight_value::{Graph, List, Memory};
 use std::alloc::Global;
-use std::collections::HashMap;
 use std::marker::Model;
 
 /// The rows of a stream or of a reply, linked. Contracts see them as the list of the rows that came.
@@ -63,7 +64,7 @@ impl Links {
                 rows: Vec::new(alloc),
                 starts: Vec::new(alloc),
                 index: Vec::new(alloc),
-                known: HashMap::new(alloc),
+                known: Ids::new(alloc),
             },
             states: Vec::new(alloc),
             backlog: Backlog {
@@ -113,7 +114,14 @@ impl Links {
     pub fn graph(&self, alloc: Global) -> Result<Graph, Memory>
         ensures { IfOk result (λ g. IsValid g × DrawOneGraph (of_graph g) (meaning self.now)) }
     {
-        self.table.graph(self.states.as_slice(), alloc)
+        let whole = Whole {
+            states: self.states.as_slice(),
+            bases: Bases {
+                before: self.before.as_slice(),
+                total: self.total,
+            },
+        };
+        self.table.graph(whole, alloc)
     }
 
     /// For each node of the canon of [`Links::graph`], in order, the id of the row that holds it: of the row of its
@@ -121,7 +129,14 @@ impl Links {
     pub fn origins(&self, alloc: Global) -> Result<List<u32>, Memory>
         ensures { IfOk result (AreOrigins self.now) }
     {
-        self.table.origins(self.states.as_slice(), alloc)
+        let whole = Whole {
+            states: self.states.as_slice(),
+            bases: Bases {
+                before: self.before.as_slice(),
+                total: self.total,
+            },
+        };
+        self.table.origins(whole, alloc)
     }
 
     /// A fact alone: no row was refused.

@@ -6,6 +6,7 @@ ghost use Rattle.flight_place.specs.Linked as linked;
 ghost use Rattle.flight_place.specs.Linked.{place_at};
 ghost use Rattle.flight_link.specs.Marks.{AreBases, mentioned, IsFirstIn};
 ghost use Rattle.flight_link.specs.Nodes.{IsTable, place_in, spot_of};
+ghost use Rattle.flight_link.specs.Numbering.{number_among};
 ghost use Rattle.flight_link.specs.Spots.{IsNumber, IsFirst, places_in};
 
 use crate::found::Spot;
@@ -32,7 +33,8 @@ impl Table {
         requires table { IsTable self.now }
         requires bases { AreBases self.now.rows.items bases.before.now bases.total }
         requires place { (at : Place) × (place_in self.now.rows.items spot ≡ Some at) }
-        ensures { IsNumber self.now.rows.items (spot_of self.now.rows.items spot) result }
+        ensures number { IsNumber self.now.rows.items (spot_of self.now.rows.items spot) result }
+        ensures value { result ≡ number_among self.now.rows.items spot }
     {
         base_at(bases.before, spot.row as usize) + spot.place
     }

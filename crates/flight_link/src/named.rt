@@ -6,10 +6,11 @@ ghost use Rattle.flight_link.specs.Backlogs.{IsAtRest};
 ghost use Rattle.flight_link.specs.declared.backlog.Backlog.{Backlog};
 ghost use Rattle.flight_link.specs.Growth.{Keeps};
 
+use crate::ids::Known;
 use crate::node::{Start, State};
 use crate::room::put_last;
 use crate::step::walk_of;
-use crate::table::{Known, Table};
+use crate::table::Table;
 use flight_place::Place;
 use flight_value::Memory;
 
@@ -25,7 +26,7 @@ impl Table {
         ensures keeps { Keeps self.old self.new }
         ensures node { IfOk result (λ n. IsNodeAt self.new.starts.items n (start.Id id)) }
     {
-        if let Some(known) = self.known.get(&id) {
+        if let Some(known) = self.known.get(id) {
             return Ok(known.node);
         }
         let Ok(node) = u32::try_from(self.starts.len()) else {

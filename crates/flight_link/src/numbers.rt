@@ -1,9 +1,16 @@
-ghost use Rattle.std.specs.Prelude.{◌≡◌, [], IfOk, OnOk, slice_get, Some, ℕ, nat_eq, cond};
+ghost use Rattle.std.specs.Prelude.{◌≡◌, ◌≤◌, ◌<◌, [], IfOk, OnOk, List, length, slice_get, Some, ℕ, nat_eq, cond};
 ghost use Rattle.std.specs.HashMap.{get};
-ghost use Rattle.flight_link.specs.Numbering.{AreNumbered, Grows, IsPut, number_of as its_number, pair_eq};
+ghost use Rattle.flight_place.specs.declared.place.PlacedRow.{PlacedRow};
+ghost use Rattle.flight_link.specs.Marks.{AreBases};
+ghost use Rattle.flight_link.specs.Nodes.{IsTable};
+ghost use Rattle.flight_link.specs.Numbering.{AreNumbered, Grows, IsKey, IsPut, number_of as its_number};
+ghost use Rattle.flight_link.specs.Spots.{places_in};
 
+use crate::backlog::{cell_at, put_cell, reach};
 use crate::key::NodeKey;
+use crate::mention::Bases;
 use crate::room::put_last;
+use crate::table::Table;
 use flight_value::Memory;
 use std::alloc::Global;
 use std::collections::HashMap;
@@ -12,24 +19,28 @@ use std::collections::HashMap;
 #[derive(Drop)]
 pub struct Numbers {
     pub keys: Vec<NodeKey>,
-    /// By the id of the row and the number of the place.
-    pub places: HashMap<(u32, u32), u32>,
+    /// For each place among all places the number of its key.
+    pub places: Vec<Option<u32>>,
     pub promises: HashMap<u32, u32>,
     pub actions: HashMap<u32, u32>,
 }
 
 impl Numbers {
-    /// No keys.
-    pub fn new(alloc: Global) -> Numbers
-        ensures none { result.keys.items ≡ [] }
-        ensures numbered { AreNumbered result }
+    /// No keys, with room for those of so many places.
+    pub fn new(alloc: Global, places: u64) -> Result<Numbers, Memory>
+        ensures { IfOk result (λ n. (rows : List PlacedRow) → places ≡ places_in rows → AreNumbered rows n) }
     {
-        Numbers {
+        let Ok(count) = usize::try_from(places) else {
+            return Err(Memory);
+        };
+        let mut places = Vec::with_capacity(alloc, count)?;
+        reach(&mut places, count)?;
+        Ok(Numbers {
             keys: Vec::new(alloc),
-            places: HashMap::new(alloc),
+            places,
             promises: HashMap::new(alloc),
             actions: HashMap::new(alloc),
-        }
+        })
     }
 
     /// The key of a number.
@@ -38,57 +49,73 @@ impl Numbers {
     {
         self.keys.get(number).copied()
     }
+}
 
+impl Table {
     /// The number of a key, the next one if it has none.
-    pub fn number(&mut self, key: NodeKey) -> Result<u32, Memory>
-        requires numbered { AreNumbered self.old }
-        ensures numbered { OnOk result (AreNumbered self.new) }
-        ensures grows { OnOk result (Grows self.old.keys.items self.new.keys.items) }
-        ensures number { IfOk result (λ n. slice_get self.new.keys.items n ≡ Some key) }
+    pub fn number_key(
+        &self,
+        bases: Bases<'_>,
+        numbers: &mut Numbers,
+        key: NodeKey,
+    ) -> Result<u32, Memory>
+        requires table { IsTable self.now }
+        requires bases { AreBases self.now.rows.items bases.before.now bases.total }
+        requires key { IsKey self.now.rows.items key }
+        requires numbered { AreNumbered self.now.rows.items numbers.old }
+        ensures numbered { OnOk result (AreNumbered self.now.rows.items numbers.new) }
+        ensures grows { OnOk result (Grows numbers.old.keys.items numbers.new.keys.items) }
+        ensures number { IfOk result (λ n. slice_get numbers.new.keys.items n ≡ Some key) }
     {
-        if let Some(number) = self.number_of(key) {
+        if let Some(number) = self.number_of(bases, numbers, key) {
             return Ok(number);
         }
-        let Ok(number) = u32::try_from(self.keys.len()) else {
+        let Ok(number) = u32::try_from(numbers.keys.len()) else {
             return Err(Memory);
         };
-        self.keys.reserve(1)?;
-        self.put(key, number)?;
-        put_last(&mut self.keys, key);
+        numbers.keys.reserve(1)?;
+        self.put_number(bases, numbers, key, number)?;
+        put_last(&mut numbers.keys, key);
         Ok(number)
     }
 
-    fn number_of(&self, key: NodeKey) -> Option<u32>
-        ensures { result ≡ its_number self.now key }
+    fn number_of(&self, bases: Bases<'_>, numbers: &Numbers, key: NodeKey) -> Option<u32>
+        requires table { IsTable self.now }
+        requires bases { AreBases self.now.rows.items bases.before.now bases.total }
+        requires key { IsKey self.now.rows.items key }
+        ensures { result ≡ its_number self.now.rows.items numbers.now key }
     {
         match key {
-            NodeKey::Made { id, place } => self.places.get(&(id, place)).copied(),
-            NodeKey::Promise(id) => self.promises.get(&id).copied(),
-            NodeKey::Action(id) => self.actions.get(&id).copied(),
+            NodeKey::Made(spot) => cell_at(numbers.places.as_slice(), self.number(bases, spot)),
+            NodeKey::Promise(id) => numbers.promises.get(&id).copied(),
+            NodeKey::Action(id) => numbers.actions.get(&id).copied(),
         }
     }
 
-    fn put(&mut self, key: NodeKey, number: u32) -> Result<(), Memory>
-        ensures put { OnOk result (IsPut self.old self.new key number) }
-        ensures keys { self.new.keys ≡ self.old.keys }
+    fn put_number(
+        &self,
+        bases: Bases<'_>,
+        numbers: &mut Numbers,
+        key: NodeKey,
+        number: u32,
+    ) -> Result<(), Memory>
+        requires table { IsTable self.now }
+        requires bases { AreBases self.now.rows.items bases.before.now bases.total }
+        requires key { IsKey self.now.rows.items key }
+        requires room { places_in self.now.rows.items ≤ length numbers.old.places.items }
+        ensures put { OnOk result (IsPut self.now.rows.items numbers.old numbers.new key number) }
+        ensures keys { numbers.new.keys ≡ numbers.old.keys }
     {
         match key {
-            NodeKey::Made { id, place } => put_place(&mut self.places, (id, place), number),
-            NodeKey::Promise(id) => put_id(&mut self.promises, id, number),
-            NodeKey::Action(id) => put_id(&mut self.actions, id, number),
+            NodeKey::Made(spot) => {
+                let at = self.number(bases, spot);
+                put_cell(&mut numbers.places, at, Some(number));
+                Ok(())
+            }
+            NodeKey::Promise(id) => put_id(&mut numbers.promises, id, number),
+            NodeKey::Action(id) => put_id(&mut numbers.actions, id, number),
         }
     }
-}
-
-fn put_place(
-    numbers: &mut HashMap<(u32, u32), u32>,
-    place: (u32, u32),
-    number: u32,
-) -> Result<(), Memory>
-    ensures { OnOk result ((q : ℕ × ℕ) → get pair_eq numbers.new q ≡ cond (pair_eq place q) (Some number) (get pair_eq numbers.old q)) }
-{
-    numbers.insert(place, number)?;
-    Ok(())
 }
 
 fn put_id(numbers: &mut HashMap<u32, u32>, id: u32, number: u32) -> Result<(), Memory>

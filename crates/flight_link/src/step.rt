@@ -1,4 +1,6 @@
-ghost use Rattle.std.specs.Prelude.{ℕ, ◌≡◌, ◌≢◌, ◌<◌, ◌^◌, ◌↔◌, IsTrue, option_map, slice_get, decimal, MatchOption};
+ghost use Rattle.std.specs.Prelude.{ℕ, ◌≡◌, ◌≢◌, ◌<◌, ◌^◌, ◌↔◌, IsTrue, map, option_map, slice_get, decimal, MatchOption};
+ghost use Rattle.flight_value.specs.Graph.{Ascend};
+ghost use Rattle.flight_place.specs.Parts.{HasOrder};
 ghost use Rattle.flight_place.specs.Resolve.{step, property, item_from, part};
 ghost use Rattle.flight_link.specs.Nodes.{followed, fails};
 
@@ -8,6 +10,7 @@ use itoa::Buffer;
 
 /// The number of the place to which a name leads from a place (React 19.0, `getOutlinedModel`).
 pub fn step_down(place: &Place, name: &Text) -> Option<u32>
+    requires { HasOrder place.now }
     ensures { result ≡ step place.now name.now }
 {
     match place {
@@ -53,16 +56,15 @@ fn spells(text: &str, number: u64) -> bool
     buffer.format(number) == text
 }
 
-/// The property of a name.
+/// The property of a name, among properties that ascend by their names.
 pub fn property_of(props: &[Named], name: &str) -> Option<u32>
+    requires { Ascend (map (λ p. p.name) props.now) }
     ensures { result ≡ property props.now name.now }
 {
-    for prop in props {
-        if prop.name.as_str() == name {
-            return Some(prop.place);
-        }
+    match props.binary_search_by(|prop| prop.name.as_str().cmp(name)) {
+        Ok(at) => Some(props[at].place),
+        Err(_) => None,
     }
-    None
 }
 
 /// A part of an element.

@@ -3,20 +3,11 @@ ghost use Rattle.flight_place.specs.Linked.{rows_of, FollowOn};
 ghost use Rattle.flight_link.specs.Nodes.{IsTable, IsStop, IsStep, place_in, node_in, spot_of, Reaches, Gets, steps_left};
 
 use crate::found::Spot;
+use crate::ids::Ids;
 use crate::node::{Start, State};
 use crate::step::{is_failure, step_down};
 use flight_place::{Place, PlacedRow};
 use flight_value::{List, Text};
-use std::collections::HashMap;
-
-/// What is known of an id.
-#[derive(Clone, Copy)]
-pub struct Known {
-    /// The node whose walk goes to its value.
-    pub node: u32,
-    /// Its row, once it is there.
-    pub row: Option<u32>,
-}
 
 /// The rows, and the nodes of their ids and of the places that are followed.
 #[derive(Drop)]
@@ -24,9 +15,9 @@ pub struct Table {
     pub rows: Vec<PlacedRow>,
     /// Whose walks the nodes are.
     pub starts: Vec<Start>,
-    /// For each row and each place in it the node of that place, if it is followed.
+    /// For each row and each place in it the node of that place, if it is followed. A list may end before the places do.
     pub index: Vec<List<Option<u32>>>,
-    pub known: HashMap<u32, Known>,
+    pub known: Ids,
 }
 
 /// A step from a place.
@@ -65,7 +56,7 @@ impl Table {
         ensures some { IsTrue result ↔ (rows_of id self.now.rows.items ≢ []) }
         ensures none { result ≡ false → rows_of id self.now.rows.items ≡ [] }
     {
-        match self.known.get(&id) {
+        match self.known.get(id) {
             Some(known) => known.row.is_some(),
             None => false,
         }

@@ -1,16 +1,17 @@
-ghost use Rattle.std.specs.Prelude.{ℕ, ◌≡◌, ◌≢◌, false, true, Some};
+ghost use Rattle.std.specs.Prelude.{ℕ, ◌≡◌, ◌≢◌, false, true, None, Some};
 ghost use Rattle.flight_place.specs.declared.place.Place.{Place};
 ghost use Rattle.flight_place.specs.declared.place.Place.TheVariants as place;
 ghost use Rattle.flight_place.specs.Meaning.{at_place, value_of, Token, map_token, set_token};
 ghost use Rattle.flight_link.specs.declared.found.Spot.{Spot};
 ghost use Rattle.flight_link.specs.Least.{token_at};
-ghost use Rattle.flight_link.specs.Nodes.{AreLinked, IsTable, IsStop, HasNode, has_ended, place_in, spot_of};
+ghost use Rattle.flight_link.specs.Nodes.{AreLinked, IsTable, IsStop, HasNode, followed, has_ended, place_in, spot_of};
 ghost use Rattle.flight_link.specs.Waiting.{IsResolved};
 ghost use Rattle.flight_link.specs.Targets.{IsTargetOf, IsTargetFrom, IsTargetBehind, IsTokenTarget, IsMissing, missing_target as target_missing};
 
 use crate::advance::state_at;
 use crate::found::Spot;
 use crate::node::State;
+use crate::step::walk_of;
 use crate::table::Table;
 use flight_place::Place;
 use flight_text::Ref;
@@ -45,12 +46,29 @@ impl Table {
         }
     }
 
+    /// The same, where what stands at the place is at hand.
+    pub fn target_written<'a>(
+        &'a self,
+        states: &[State],
+        spot: Spot,
+        place: &'a Place,
+    ) -> Target<'a>
+        requires linked { AreLinked self.now states.now }
+        requires place { place_in self.now.rows.items spot ≡ Some place.now }
+        ensures { IsTargetOf self.now.rows.items (at_place (spot_of self.now.rows.items spot)) result }
+    {
+        match walk_of(place) {
+            Some(_) => self.target_at(states, spot),
+            None => self.target_in(states, spot, place),
+        }
+    }
+
     /// What the value of an id is.
     pub fn target_of(&self, states: &[State], id: u32) -> Target<'_>
         requires { AreLinked self.now states.now }
         ensures { IsTargetOf self.now.rows.items (value_of id) result }
     {
-        match self.known.get(&id) {
+        match self.known.get(id) {
             Some(known) => self.target_behind(states, known.node),
             None => Target::Awaits(id),
         }
@@ -88,16 +106,30 @@ impl Table {
         ensures { IsTargetFrom self.now.rows.items end result }
     {
         match self.place(end) {
-            Some(Place::Atom(atom)) => Target::Atom(atom),
-            Some(Place::Array(_)) => Target::Node(end),
-            Some(Place::Object(_)) => Target::Node(end),
-            Some(Place::Element { .. }) => Target::Node(end),
-            Some(Place::Promise(id)) => Target::Promise(*id),
-            Some(Place::Action(id)) => self.action_target(end, *id),
-            Some(Place::Map(at)) => self.map_target(states, end, at),
-            Some(Place::Set(at)) => self.set_target(states, end, at),
+            Some(place) => self.target_in(states, end, place),
+            // A walk ends at a place.
+            None => Target::Lost,
+        }
+    }
+
+    /// The same, where what stands at the place is at hand.
+    fn target_in<'a>(&'a self, states: &[State], end: Spot, place: &'a Place) -> Target<'a>
+        requires linked { AreLinked self.now states.now }
+        requires place { place_in self.now.rows.items end ≡ Some place.now }
+        requires stop { followed place.now ≡ None }
+        ensures { IsTargetFrom self.now.rows.items end result }
+    {
+        match place {
+            Place::Atom(atom) => Target::Atom(atom),
+            Place::Array(_) => Target::Node(end),
+            Place::Object(_) => Target::Node(end),
+            Place::Element { .. } => Target::Node(end),
+            Place::Promise(id) => Target::Promise(*id),
+            Place::Action(id) => self.action_target(end, *id),
+            Place::Map(at) => self.map_target(states, end, at),
+            Place::Set(at) => self.set_target(states, end, at),
             // No walk ends at a place that is followed.
-            Some(Place::Lazy(_) | Place::Value(_)) | None => Target::Lost,
+            Place::Lazy(_) | Place::Value(_) => Target::Lost,
         }
     }
 

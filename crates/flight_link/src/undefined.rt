@@ -151,7 +151,7 @@ impl Table {
         requires { IsTable self.now }
         ensures { IsTrue result ↔ ((r : Reference) × (reference_of self.now.rows.items id ≡ Some r)) }
     {
-        match self.known.get(&id) {
+        match self.known.get(id) {
             Some(known) => match known.row {
                 Some(row) => self.is_reference(row),
                 None => false,
@@ -161,6 +161,7 @@ impl Table {
     }
 
     fn is_reference(&self, row: u32) -> bool
+        requires { IsTable self.now }
         ensures { (r : PlacedRow) → slice_get self.now.rows.items row ≡ Some r → result ≡ refers_in self.now.rows.items row r.tree.kind (place_in self.now.rows.items (record { row = row; place = 0 })) }
     {
         match row_at(self.rows.as_slice(), row as usize) {
@@ -170,6 +171,7 @@ impl Table {
     }
 
     fn refers(&self, row: u32, kind: RowKind) -> bool
+        requires { IsTable self.now }
         ensures { result ≡ refers_in self.now.rows.items row kind (place_in self.now.rows.items (record { row = row; place = 0 })) }
     {
         match kind {

@@ -5,5 +5,5 @@ use Rattle.flight_link.proofs.table.Table.has_reference.Goals as goal
 
 pub returns-in-Some-row : goal.returns-in-Some-row
 returns-in-Some-row c =
-    let known = subst (IsKnown c.args.self.now.rows.items c.args.self.now.starts.items c.args.id) (sym c.in-Some.ensures.value) (c.requires.known c.args.id) in
+    let known = subst (IsKnown c.args.self.now.rows.items c.args.self.now.starts.items c.args.id) (sym c.in-Some.ensures) (c.requires.known c.args.id) in
     has_one c.args.self.now c.args.id c.in-Some-row.row c.is_reference.result c.requires (subst (IsRowOf c.args.self.now.rows.items c.args.id) c.in-Some-row.is known.1) c.is_reference.ensures

@@ -1,7 +1,6 @@
-use Rattle.std.proofs.Common.{◌≡◌, ◌∙◌, sym, ap, refl, None, List, ◌++◌, ◌∷◌, [], length, rules, nat_eq, slice_get}
-use Rattle.std.specs.Prelude.{option_copied}
-use Rattle.std.specs.HashMap.{get}
-use Rattle.flight_link.specs.declared.table.Known.{Known}
+use Rattle.std.proofs.Common.{◌≡◌, ◌∙◌, sym, ap, refl, None, List, ◌++◌, ◌∷◌, [], length, rules, slice_get}
+use Rattle.flight_link.specs.Known.{known_of}
+use Rattle.flight_link.specs.declared.ids.Known.{Known}
 use Rattle.flight_link.specs.declared.table.Table.{Table}
 use Rattle.flight_link.specs.declared.node.Start.{Start}
 use Rattle.flight_link.specs.declared.node.Start.TheVariants.{Id}
@@ -16,9 +15,9 @@ returns-clause-table c =
     let u : Table = record { rows = c.args.self.now.rows; starts = c.put_last.new.list; index = c.args.self.now.index; known = c.insert.new.self } in
     let k : Known = record { node = c.in-Ok.node; row = None } in
     let added = c.put_last.ensures ∙ ap (λ (x : List Start). x ++ Id c.args.id ∷ []) c.reserve.ensures.items in
-    let none : get nat_eq c.args.self.now.known c.args.id ≡ None = sym c.get.ensures.value ∙ ap option_copied c.in_default.is in
+    let none : known_of c.args.self.now.known c.args.id ≡ None = sym c.get.ensures ∙ c.in_default.is in
     let number : c.in-Ok.node ≡ length c.args.self.now.starts.items = search rules in
-    let is : IsNamedNow c.args.self.now u c.args.id k = record { rows = refl; index = refl; starts = added; none = none; updates = c.in_ok-insert.ensures.updates.0; node = number; row = refl } in
+    let is : IsNamedNow c.args.self.now u c.args.id k = record { rows = refl; index = refl; starts = added; none = none; updates = c.in_ok-insert.ensures.ok; node = number; row = refl } in
     named_table c.args.self.now u c.args.id k c.requires.table is
 
 pub returns-clause-states : goal.returns-clause-states
@@ -26,9 +25,9 @@ returns-clause-states c =
     let u : Table = record { rows = c.args.self.now.rows; starts = c.put_last.new.list; index = c.args.self.now.index; known = c.insert.new.self } in
     let k : Known = record { node = c.in-Ok.node; row = None } in
     let added = c.put_last.ensures ∙ ap (λ (x : List Start). x ++ Id c.args.id ∷ []) c.reserve.ensures.items in
-    let none : get nat_eq c.args.self.now.known c.args.id ≡ None = sym c.get.ensures.value ∙ ap option_copied c.in_default.is in
+    let none : known_of c.args.self.now.known c.args.id ≡ None = sym c.get.ensures ∙ c.in_default.is in
     let number : c.in-Ok.node ≡ length c.args.self.now.starts.items = search rules in
-    let is : IsNamedNow c.args.self.now u c.args.id k = record { rows = refl; index = refl; starts = added; none = none; updates = c.in_ok-insert.ensures.updates.0; node = number; row = refl } in
+    let is : IsNamedNow c.args.self.now u c.args.id k = record { rows = refl; index = refl; starts = added; none = none; updates = c.in_ok-insert.ensures.ok; node = number; row = refl } in
     named_states c.args.self.now u c.args.id k c.args.states.now.items c.put_last-2.new.list.items c.requires.table is (c.put_last-2.ensures ∙ ap (λ (x : List State). x ++ Absent ∷ []) c.reserve-2.ensures.items) c.requires.states
 
 pub returns-clause-quiet : goal.returns-clause-quiet

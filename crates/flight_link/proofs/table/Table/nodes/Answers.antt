@@ -13,6 +13,6 @@ nodes-preserved c =
     record {
       numbered = c.in_ok-node_of.ensures.numbered;
       grows = grows_on c.args.numbers.now.keys.items old new c.nodes.invariant.grows c.in_ok-node_of.ensures.grows;
-      each = subst (λ (xs : List Node). (n : ℕ) (node : Node) → slice_get xs n ≡ Some node → (key : NodeKey) × (slice_get new n ≡ Some key) × DrawsNode c.args.self.now.rows.items new (identity_of key) node) (sym c.in_ok-push.ensures.items)
+      each = subst (λ (xs : List Node). (n : ℕ) (node : Node) → slice_get xs n ≡ Some node → (key : NodeKey) × (slice_get new n ≡ Some key) × DrawsNode c.args.self.now.rows.items new (identity_of c.args.self.now.rows.items key) node) (sym c.in_ok-push.ensures.items)
           (each_push c.args.self.now.rows.items old new c.nodes.nodes.items c.in-Some.key c.in_ok-node_of.field-0 c.in_ok-node_of.ensures.grows c.nodes.invariant.each at c.in_ok-node_of.ensures.node);
     }

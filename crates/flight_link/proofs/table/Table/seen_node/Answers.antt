@@ -6,4 +6,4 @@ pub number-requires-clause-place : goal.number-requires-clause-place
 number-requires-clause-place c = node_place c.args.self.now c.args.spot c.requires.target.0 c.requires.table c.requires.target.1
 
 pub returns : goal.returns
-returns c = node_seen c.args.self.now c.args.spot c.kind.result c.number.result c.requires.table c.kind.ensures c.number.ensures
+returns c = node_seen c.args.self.now c.args.spot c.kind.result c.number.result c.requires.table c.kind.ensures c.number.ensures.number

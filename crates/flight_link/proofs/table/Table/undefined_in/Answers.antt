@@ -1,9 +1,14 @@
-use Rattle.std.proofs.Common.{◌≡◌, ◌<◌, ◌+◌, ◌∙◌, sym, ap, subst, List, ◌++◌, ◌∷◌, [], length, take}
-use Rattle.std.proofs.lemmas.List.{take_more}
+use Rattle.std.proofs.Common.{◌≡◌, ◌≤◌, ◌<◌, ◌+◌, ◌∙◌, sym, ap, subst, List, ◌++◌, ◌∷◌, [], length, take, arith}
+use Rattle.std.proofs.lemmas.List.{take_all, take_more}
 use Rattle.flight_place.specs.declared.place.Place.{Place}
 use Rattle.flight_link.specs.Least.{IsLeastIn, IsIn}
 use Rattle.flight_link.proofs.Defined.{least_place}
 use Rattle.flight_link.proofs.table.Table.undefined_in.Goals as goal
+
+pub returns : goal.returns
+returns c =
+    let most : length c.args.places.now ≤ c.places.place-index = omega (arith, c.places-test.false) in
+    subst (λ (xs : List Place). IsLeastIn c.args.self.now.rows.items (IsIn xs) c.places.least) (take_all c.places.place-index c.args.places.now most) c.places.invariant
 
 pub places-preserved : goal.places-preserved
 places-preserved c =
