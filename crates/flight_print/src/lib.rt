@@ -1,0 +1,2 @@
+//! Programs of the component language, printed.
+#![tactic(auto)]
