@@ -1,2 +1,7 @@
 mod Lexing
 mod Alike
+mod Said
+mod Again
+mod Numerals
+mod Atoms
+mod Parts
