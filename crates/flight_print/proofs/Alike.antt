@@ -252,7 +252,7 @@ actions_numbered all q = number_plain (is_action q) (action_plain q) all
 tags_numbered : (all : List Declaration) (q : List ℕ) → tag_of (all_plain all) q ≡ tag_of all q
 tags_numbered all q = ap₂ (λ s c. if is_lower q then Some (Host q) else component_tag s c (bytes_eq q (codes "Suspense"))) (servers_numbered all q) (clients_numbered all q)
 
-three : {A B C D : Type 0} (f : A → B → C → D) {a a' : A} {b b' : B} {c c' : C} → a ≡ a' → b ≡ b' → c ≡ c' → f a b c ≡ f a' b' c'
+pub three : {A B C D : Type 0} (f : A → B → C → D) {a a' : A} {b b' : B} {c c' : C} → a ≡ a' → b ≡ b' → c ≡ c' → f a b c ≡ f a' b' c'
 three f {a} {a'} {b} {b'} {c} {c'} p q r = ap₂ (λ x y. f x y c) p q ∙ ap (f a' b') r
 
 mutual

@@ -5,3 +5,4 @@ mod Again
 mod Numerals
 mod Atoms
 mod Parts
+mod Trees
