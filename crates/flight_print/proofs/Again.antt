@@ -71,7 +71,7 @@ same_number n = grind (arith, nat_tests)
 same_key : (k : Keyword) → ◌≡◌ {A = Option U} (taken_where (key_number k == key_number k) tt) (Some tt)
 same_key k = ap (λ b. taken_where {A = U} b tt) (same_number (key_number k))
 
-same_sign : (s : Punctuator) → ◌≡◌ {A = Option U} (taken_where (sign_number s == sign_number s) tt) (Some tt)
+pub same_sign : (s : Punctuator) → ◌≡◌ {A = Option U} (taken_where (sign_number s == sign_number s) tt) (Some tt)
 same_sign s = ap (λ b. taken_where {A = U} b tt) (same_number (sign_number s))
 
 pub keyword_again : (k : Keyword) → Again {A = U} (λ a. keyword k) (λ a. U) (word (spelled k))

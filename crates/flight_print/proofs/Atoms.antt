@@ -77,7 +77,7 @@ big_decimal_said n h = (decimal_numeral n (omega (arith, h))).spelled
 whole_again : (n : ℕ) → n < 2 ^ 53 → AtomAgain (value.Whole (pos n))
 whole_again n h = by_one (value.Whole (pos n)) (word (decimal n)) (number_alone constant_of (value.Whole (pos n)) n h (ap (λ m. Some (value.Whole (pos m))) (decimal_said n h)))
 
-zero_text : decimal 0 ≡ codes "0"
+pub zero_text : decimal 0 ≡ codes "0"
 unfolding digits
 zero_text = refl
 

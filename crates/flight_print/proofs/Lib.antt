@@ -6,3 +6,5 @@ mod Numerals
 mod Atoms
 mod Parts
 mod Trees
+mod Imports
+mod Programs

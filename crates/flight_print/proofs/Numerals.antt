@@ -1,15 +1,15 @@
 -- Decimal texts are numerals, and quoted ones are texts.
-use Rattle.std.proofs.Common.{◌≡◌, ◌≢◌, ℕ, zero, suc, ◌+◌, ◌-◌, ◌*◌, ◌^◌, ◌%◌, ◌<◌, true, List, [], ◌∷◌, ◌++◌, length, get_or, Some, decimal, refl, sym, ap, subst, ◌∙◌, arith, append-nil, length-append}
+use Rattle.std.proofs.Common.{◌≡◌, ◌≢◌, ℕ, zero, suc, ◌+◌, ◌-◌, ◌*◌, ◌^◌, ◌%◌, ◌<◌, ◌≤◌, true, List, [], ◌∷◌, ◌++◌, length, get_or, Some, decimal, refl, sym, ap, subst, ◌∙◌, arith, append-nil, length-append}
 use Rattle.std.specs.Prelude.{option_and_then}
 use Rattle.std.proofs.Math.ListN.{get_or-append}
 use Rattle.std.specs.List.{list_all, fold}
 use Rattle.std.specs.Char.{is_ascii_digit, digit_value}
 use Rattle.std.specs.Str.Parse.{AllDigits, digits_value_after}
-use Rattle.std.proofs.lemmas.Bool.{and_from}
+use Rattle.std.proofs.lemmas.Bool.{and_from, and_parts}
 use Rattle.std.proofs.lemmas.Bool.Decides.{nat_tests}
 use Rattle.std.proofs.lemmas.Str.{digit_value_digit}
-use Rattle.std.proofs.lemmas.Str.Parse.{digit_from_value}
-use Rattle.std.proofs.lemmas.Fmt.{decimal_is_IsNumeral_wide, decimal_by_steps_wide}
+use Rattle.std.proofs.lemmas.Str.Parse.{IsNumeralModel, digit_from_value}
+use Rattle.std.proofs.lemmas.Fmt.{decimal_is_IsNumeral_wide, decimal_by_steps_wide, decimal-digits_value}
 use Rattle.json.specs.Token as tok
 use Rattle.json.specs.Lex.{tokens}
 use Rattle.json.specs.Json as json
@@ -56,6 +56,33 @@ decimal_number n h = record { is_numeral = decimal_numeral n (omega (arith, h));
 
 pub decimal_big : (n : ℕ) → n < 2 ^ 127 → IsBig (decimal n ++ 110 ∷ []) n
 decimal_big n h = record { digits = decimal n; is_numeral = decimal_numeral n (omega (arith, h)); within = h; spelled = refl }
+
+digit_within : (c : ℕ) → is_ascii_digit c ≡ true → (48 ≤ c) × (c ≤ 57)
+digit_within c h = grind (arith, nat_tests)
+
+to_digits : (ds : List ℕ) → list_all is_ascii_digit ds ≡ true → AllDigits 10 ds
+to_digits [] h = tt
+to_digits (c ∷ ds) h =
+    let p = and_parts (is_ascii_digit c) (list_all is_ascii_digit ds) h in
+    let w = digit_within c p.0 in
+    let k = digit_value_digit c w in
+    (omega (arith, k, w), to_digits ds p.1)
+
+numerals : IsNumeralModel (λ ds. list_all is_ascii_digit ds ≡ true) pieces.decimal
+numerals = record { to = to_digits; from = all_ascii; same = λ ds h. value_is ds 0 h }
+
+-- a numeral is the decimal text of its number
+pub decimal_of : (digits : List ℕ) (n : ℕ) → IsNumber digits n → decimal n ≡ digits
+decimal_of digits n is =
+    let a = is.is_numeral in
+    let small = is.within in
+    let same = a.spelled in
+    ap decimal (sym same) ∙ decimal-digits_value numerals digits a.all_digits a.some (λ e. let b = a.some in by (length digits) refl (a.no_zero_before) e b) (omega (arith, same, small))
+  where
+    by : (k : ℕ) → length digits ≡ k → (1 < length digits → get_or digits 0 0 ≢ 48) → get_or digits 0 0 ≡ 48 → 0 < length digits → length digits ≡ 1
+    by zero p f e b = omega (arith, p, b)
+    by (suc zero) p f e b = p
+    by (suc (suc k)) p f e b = absurd (f (omega (arith, p)) e)
 
 -- ---- texts
 

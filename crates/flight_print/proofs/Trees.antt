@@ -19,7 +19,7 @@ use Rattle.flight_print.proofs.Parts.{Like, same_base, same_posts, same_element,
 
 -- ---- one word
 
-taken : {take : Word → Option Placed} → ((w : Word) (named : Placed) → IsSaid w → take w ≡ Some named → Takes take named.bytes) → (named : Placed) (x : List Word) → AreSaid x → one take named x → Again (one take) (Named named) (word named.bytes)
+pub taken : {take : Word → Option Placed} → ((w : Word) (named : Placed) → IsSaid w → take w ≡ Some named → Takes take named.bytes) → (named : Placed) (x : List Word) → AreSaid x → one take named x → Again (one take) (Named named) (word named.bytes)
 taken {take} f named x r o = named_again take named (f o.0 named (subst AreSaid o.2 r).0 o.1)
 
 not_deep : (x : List Word) → AreSaid x → one is_deep tt x → ⊥
@@ -124,7 +124,7 @@ taken_plain named x r o = plain_again o.0 named (subst AreSaid o.2 r).0 o.1
 
 -- ---- lists
 
-grouped : (a b c : List ℕ) → (a ++ b) ++ c ≡ a ++ (b ++ c)
+pub grouped : (a b c : List ℕ) → (a ++ b) ++ c ≡ a ++ (b ++ c)
 grouped a b c = append_assoc a b c
 
 grouped_three : (a b c d : List ℕ) → (a ++ (b ++ c)) ++ d ≡ a ++ (b ++ (c ++ d))
