@@ -7,4 +7,6 @@ mod Atoms
 mod Parts
 mod Trees
 mod Imports
-mod Programs
+pub mod Programs
+pub mod Quoted
+pub mod Posts

@@ -24,7 +24,7 @@ use Rattle.flight_syntax.specs.Term as term
 use Rattle.flight_syntax.specs.Term.{Term}
 use Rattle.flight_syntax.proofs.Meanings.{bytes_is, bytes_same}
 use Rattle.flight_print.specs.Text as printed
-use Rattle.flight_print.specs.Text.{word, given, name_at, op_text, tag_name, Shape, bare, element, other, shape_of}
+use Rattle.flight_print.specs.Text.{word, name_at, op_text, tag_name, Shape, bare, element, other, shape_of}
 use Rattle.flight_print.specs.Pieces.{Piece, IsApart, AreApart, words_at, size}
 use Rattle.flight_print.specs.Pieces as pieces
 use Rattle.flight_print.proofs.Numerals.{quoted_text}

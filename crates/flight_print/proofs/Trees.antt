@@ -1,5 +1,6 @@
 -- What is printed of a tree spells the same tree, but for places.
 use Rattle.std.proofs.Common.{◌≡◌, ℕ, zero, suc, ◌<◌, Bool, true, false, ◌⊎◌, inl, inr, List, [], ◌∷◌, ◌++◌, Option, Some, None, refl, sym, ap, ap₂, subst, ◌∙◌, append_assoc, append-nil, codes}
+use Rattle.std.specs.Prelude.{unwrap_or}
 use Rattle.flight_value.specs.declared.graph.Atom.TheVariants as value
 use Rattle.flight_syntax.specs.declared.word.Keyword.TheVariants.{Let, In, If, Then, Else, For, Give, Throw, Map, Set, Use, Promise, Stream, Action, With}
 use Rattle.flight_syntax.specs.declared.word.Punctuator.TheVariants.{OpenParen, CloseParen, OpenBracket, CloseBracket, OpenBrace, CloseBrace, Comma, Colon, Dot, Assign, Less, Greater, LessSlash, SlashGreater}
@@ -201,7 +202,7 @@ mutual
   again all scope (tree.too_many of) (suc d) x r m k = absurd k
   again all scope (tree.atom v) (suc d) x r m k = made_again (λ u. Spells u (suc d)) (Like (tree.atom v)) (atom_again v x r m) (λ b. tree.atom v) (λ b s. refl) (λ b w s y. y)
   again all scope (tree.variable n) (suc d) x r m k =
-      made_again (λ u. Spells u (suc d)) (Like (tree.variable n)) (so_again (ap word (sym (ap printed.given k.here))) (taken lower_again n x r m)) (λ n. tree.variable n) (λ n s. ap tree.variable s) (λ n w s y. y)
+      made_again (λ u. Spells u (suc d)) (Like (tree.variable n)) (so_again (ap word (sym (ap (λ o. unwrap_or o []) k.here))) (taken lower_again n x r m)) (λ n. tree.variable n) (λ n s. ap tree.variable s) (λ n w s y. y)
   again all scope (tree.client n) (suc d) x r m k =
       made_again (λ u. Spells u (suc d)) (Like (tree.client n)) (so_again (ap word (sym (client_name all n.bytes (given (client_number all n.bytes)) k))) (taken upper_again n x r m)) (λ n. tree.client n) (λ n s. ap tree.client s) (λ n w s y. y)
   again all scope (tree.array l) (suc d) x r m k =

@@ -1,2 +1,4 @@
 pub mod Text
 pub mod Pieces
+pub mod Scope
+pub mod Forms

@@ -1,5 +1,5 @@
 -- How programs are printed: each word, and a space behind it; a line for each declaration.
-use Rattle.std.specs.Prelude.{ℕ, suc, Bool, true, false, List, [], ◌∷◌, ◌++◌, slice_get, map, codes, pos, negsuc, Option, Some, None, decimal}
+use Rattle.std.specs.Prelude.{ℕ, suc, Bool, true, false, List, [], ◌∷◌, ◌++◌, slice_get, map, codes, pos, negsuc, unwrap_or, decimal}
 use Rattle.json.specs.Print.{quoted}
 use Rattle.flight_value.specs.declared.graph.Atom.{Atom}
 use Rattle.flight_value.specs.declared.graph.Atom.TheVariants as value
@@ -21,12 +21,8 @@ abbrev pub literal : List ℕ → List ℕ
 literal text = word (quoted text)
 
 -- the one of these names that has the number, where there is one
-abbrev pub given : Option (List ℕ) → List ℕ
-given (Some name) = name
-given None = []
-
 abbrev pub name_at : List (List ℕ) → ℕ → List ℕ
-name_at names number = given (slice_get names number)
+name_at names number = unwrap_or (slice_get names number) []
 
 abbrev pub op_text : Op → List ℕ
 op_text op.Plus = codes "+"
