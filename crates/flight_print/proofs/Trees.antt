@@ -134,7 +134,7 @@ grouped_three a b c d = append_assoc a (b ++ c) d ∙ ap (λ z. a ++ z) (append_
 grouped_four : (a b c d e : List ℕ) → (a ++ (b ++ (c ++ d))) ++ e ≡ a ++ (b ++ (c ++ (d ++ e)))
 grouped_four a b c d e = append_assoc a (b ++ (c ++ d)) e ∙ ap (λ z. a ++ z) (grouped_three b c d e)
 
-grouped_five : (a b c d e f : List ℕ) → (a ++ (b ++ (c ++ (d ++ e)))) ++ f ≡ a ++ (b ++ (c ++ (d ++ (e ++ f))))
+pub grouped_five : (a b c d e f : List ℕ) → (a ++ (b ++ (c ++ (d ++ e)))) ++ f ≡ a ++ (b ++ (c ++ (d ++ (e ++ f))))
 grouped_five a b c d e f = append_assoc a (b ++ (c ++ (d ++ e))) f ∙ ap (λ z. a ++ z) (grouped_four b c d e f)
 
 grouped_six : (a b c d e f g : List ℕ) → (a ++ (b ++ (c ++ (d ++ (e ++ f))))) ++ g ≡ a ++ (b ++ (c ++ (d ++ (e ++ (f ++ g)))))

@@ -7,7 +7,7 @@ use Rattle.flight_syntax.specs.Term.{Post, named, indexed}
 use Rattle.flight_syntax.specs.declared.expr.Tag.{Tag}
 use Rattle.flight_syntax.specs.Term as term
 use Rattle.flight_syntax.specs.Term.{Term, Terms}
-use Rattle.flight_print.specs.Text.{said_name, word, literal, tag_name, shape_of, given_text, term_text, children_text}
+use Rattle.flight_print.specs.Text.{said_name, word, bracketed, literal, tag_name, shape_of, given_text, term_text, children_text}
 use Rattle.flight_print.specs.declared.names.Names.{Names}
 
 -- the names of declarations
@@ -21,7 +21,7 @@ scope_of names locals = names.params.now ++ map (λ n. n.now) locals
 -- postfixes, one behind the other
 abbrev pub post_text : List (List ℕ) → List (List ℕ) → Post → List ℕ
 post_text names scope (named name) = word (codes ".") ++ word name
-post_text names scope (indexed at) = word (codes "[") ++ (term_text names scope at ++ word (codes "]"))
+post_text names scope (indexed at) = bracketed (term_text names scope at)
 
 abbrev pub posts_text : List (List ℕ) → List (List ℕ) → List Post → List ℕ
 posts_text names scope [] = []

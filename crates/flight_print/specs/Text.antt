@@ -20,6 +20,13 @@ word bytes = bytes ++ 32 ∷ []
 abbrev pub literal : List ℕ → List ℕ
 literal text = word (quoted text)
 
+-- in brackets and in braces
+abbrev pub bracketed : List ℕ → List ℕ
+bracketed text = word (codes "[") ++ (text ++ word (codes "]"))
+
+abbrev pub braced : List ℕ → List ℕ
+braced text = word (codes "{") ++ (text ++ word (codes "}"))
+
 -- the one of these names that has the number, where there is one
 abbrev pub name_at : List (List ℕ) → ℕ → List ℕ
 name_at names number = unwrap_or (slice_get names number) []
@@ -75,9 +82,6 @@ shape_of (term.atom (value.Text text)) = bare text
 shape_of (term.element named attrs children) = element
 shape_of _ = other
 
-abbrev pub braced : List ℕ → List ℕ
-braced text = word (codes "{") ++ (text ++ word (codes "}"))
-
 abbrev pub given_text : Shape → List ℕ → List ℕ
 given_text (bare text) whole = literal text
 given_text element whole = braced whole
@@ -96,19 +100,19 @@ abbrev mutual
   term_text names scope (term.for_in named over give) = word (codes "for") ++ (word named ++ (word (codes "in") ++ (term_text names scope over ++ (word (codes "give") ++ term_text names (scope ++ named ∷ []) give))))
   term_text names scope (term.throw thrown) = word (codes "throw") ++ term_text names scope thrown
   term_text names scope (term.member of named) = term_text names scope of ++ (word (codes ".") ++ word named)
-  term_text names scope (term.index of at) = term_text names scope of ++ (word (codes "[") ++ (term_text names scope at ++ word (codes "]")))
+  term_text names scope (term.index of at) = term_text names scope of ++ bracketed (term_text names scope at)
   term_text names scope (term.atom atom) = atom_text atom
   term_text names scope (term.variable number) = word (name_at scope number)
   term_text names scope (term.client number) = word (name_at names number)
-  term_text names scope (term.array items) = word (codes "[") ++ (terms_text names scope false items ++ word (codes "]"))
-  term_text names scope (term.object props) = word (codes "{") ++ (props_text names scope false props ++ word (codes "}"))
-  term_text names scope (term.map pairs) = word (codes "map") ++ (word (codes "[") ++ (pairs_text names scope false pairs ++ word (codes "]")))
-  term_text names scope (term.set items) = word (codes "set") ++ (word (codes "[") ++ (terms_text names scope false items ++ word (codes "]")))
+  term_text names scope (term.array items) = bracketed (terms_text names scope false items)
+  term_text names scope (term.object props) = braced (props_text names scope false props)
+  term_text names scope (term.map pairs) = word (codes "map") ++ bracketed (pairs_text names scope false pairs)
+  term_text names scope (term.set items) = word (codes "set") ++ bracketed (terms_text names scope false items)
   term_text names scope (term.source named) = word (codes "use") ++ word named
   term_text names scope (term.promise named) = word (codes "promise") ++ word named
   term_text names scope (term.stream named) = word (codes "stream") ++ word named
   term_text names scope (term.action number) = word (codes "action") ++ word (name_at names number)
-  term_text names scope (term.action_with number bound) = word (codes "action") ++ (word (name_at names number) ++ (word (codes "with") ++ (word (codes "[") ++ (terms_text names scope false bound ++ word (codes "]")))))
+  term_text names scope (term.action_with number bound) = word (codes "action") ++ (word (name_at names number) ++ (word (codes "with") ++ bracketed (terms_text names scope false bound)))
   term_text names scope (term.paren inside) = word (codes "(") ++ (term_text names scope inside ++ word (codes ")"))
   term_text names scope (term.binary op left right) = word (codes "(") ++ (term_text names scope left ++ (word (op_text op) ++ (term_text names scope right ++ word (codes ")"))))
   term_text names scope (term.element named attrs term.no_terms) = word (codes "<") ++ (word (tag_name names named) ++ (attrs_text names scope attrs ++ word (codes "/>")))

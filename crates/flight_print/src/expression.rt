@@ -1,6 +1,6 @@
-ghost use Rattle.std.specs.Prelude.{◌≡◌, ◌++◌, ◌∷◌, [], OnOk, false, map, string_bytes, codes};
+ghost use Rattle.std.specs.Prelude.{◌≡◌, ◌++◌, ◌∷◌, [], OnOk, false, map, string_bytes};
 ghost use Rattle.flight_syntax.specs.Term.{term, prop, pair, post, terms_of, props_of, pairs_of};
-ghost use Rattle.flight_print.specs.Text.{word, shape_of, braced, given_text, child_text, term_text, terms_text, props_text, pairs_text, attrs_text, children_text};
+ghost use Rattle.flight_print.specs.Text.{word, bracketed, shape_of, braced, given_text, child_text, term_text, terms_text, props_text, pairs_text, attrs_text, children_text};
 ghost use Rattle.flight_print.specs.Scope.{declared_names, scope_of, post_text, posts_text, prop_text, pair_text, attr_text, ending_text};
 
 use crate::atom::{op_word, write_atom};
@@ -105,7 +105,7 @@ pub fn write_expr<'a>(
 
 /// Appends a word and a name.
 fn write_named(out: &mut String, keyword: &str, name: &Text) -> Result<(), Memory>
-    ensures { OnOk result (string_bytes out.new ≡ string_bytes out.old ++ word keyword.now ++ word name.now) }
+    ensures { OnOk result (string_bytes out.new ≡ string_bytes out.old ++ (word keyword.now ++ word name.now)) }
 {
     write_word(out, keyword)?;
     write_word(out, name.as_str())
@@ -122,7 +122,7 @@ fn write_local<'a>(
     between: &str,
     value: &'a Expr,
 ) -> Result<(), Memory>
-    ensures { OnOk result (string_bytes out.new ≡ string_bytes out.old ++ word name.now ++ word between.now ++ term_text (declared_names names.now.declared.now) (scope_of names.now locals.now) (term value.now)) }
+    ensures { OnOk result (string_bytes out.new ≡ string_bytes out.old ++ (word name.now ++ (word between.now ++ term_text (declared_names names.now.declared.now) (scope_of names.now locals.now) (term value.now)))) }
 {
     write_word(out, name.as_str())?;
     write_word(out, between)?;
@@ -192,7 +192,7 @@ fn write_list<'a>(
     locals: &[&'a Text],
     items: &'a [Expr],
 ) -> Result<(), Memory>
-    ensures { OnOk result (string_bytes out.new ≡ string_bytes out.old ++ word (codes "[") ++ terms_text (declared_names names.now.declared.now) (scope_of names.now locals.now) false (terms_of (map term items.now)) ++ word (codes "]")) }
+    ensures { OnOk result (string_bytes out.new ≡ string_bytes out.old ++ bracketed (terms_text (declared_names names.now.declared.now) (scope_of names.now locals.now) false (terms_of (map term items.now)))) }
 {
     write_word(out, "[")?;
     write_items(alloc, out, names, locals, items)?;
@@ -226,7 +226,7 @@ fn write_object<'a>(
     locals: &[&'a Text],
     props: &'a [PropExpr],
 ) -> Result<(), Memory>
-    ensures { OnOk result (string_bytes out.new ≡ string_bytes out.old ++ word (codes "{") ++ props_text (declared_names names.now.declared.now) (scope_of names.now locals.now) false (props_of (map prop props.now)) ++ word (codes "}")) }
+    ensures { OnOk result (string_bytes out.new ≡ string_bytes out.old ++ braced (props_text (declared_names names.now.declared.now) (scope_of names.now locals.now) false (props_of (map prop props.now)))) }
 {
     write_word(out, "{")?;
     write_props(alloc, out, names, locals, props)?;
@@ -276,7 +276,7 @@ fn write_entries<'a>(
     locals: &[&'a Text],
     pairs: &'a [PairExpr],
 ) -> Result<(), Memory>
-    ensures { OnOk result (string_bytes out.new ≡ string_bytes out.old ++ word (codes "[") ++ pairs_text (declared_names names.now.declared.now) (scope_of names.now locals.now) false (pairs_of (map pair pairs.now)) ++ word (codes "]")) }
+    ensures { OnOk result (string_bytes out.new ≡ string_bytes out.old ++ bracketed (pairs_text (declared_names names.now.declared.now) (scope_of names.now locals.now) false (pairs_of (map pair pairs.now)))) }
 {
     write_word(out, "[")?;
     write_pairs(alloc, out, names, locals, pairs)?;
