@@ -10,4 +10,4 @@ mod Imports
 pub mod Programs
 pub mod Quoted
 pub mod Posts
-mod Written
+pub mod Written

@@ -14,10 +14,12 @@ use Rattle.flight_syntax.specs.declared.expr.Expr.{Expr}
 use Rattle.flight_syntax.specs.declared.expr.PropExpr.{PropExpr}
 use Rattle.flight_syntax.specs.declared.expr.PairExpr.{PairExpr}
 use Rattle.flight_syntax.specs.declared.expr.Postfix.{Postfix}
+use Rattle.flight_syntax.specs.declared.program.Declared.{Declared}
+use Rattle.flight_syntax.specs.Derives.{said}
 use Rattle.flight_syntax.specs.Term.{Term, Terms, term, prop, pair, post, terms_of, props_of, pairs_of, no_terms, term_and}
 use Rattle.flight_syntax.proofs.Terms.{term-Postfixed, term-Array, term-Object, term-Map, term-Set, term-Source, term-Promise, term-Stream, term-Action, term-Paren, term-Binary, term-Element}
-use Rattle.flight_print.specs.Text.{word, literal, comma_if, op_text, tag_name, name_at, shape_of, given_text, child_text, term_text, terms_text, props_text, pairs_text, attrs_text, children_text, params_text}
-use Rattle.flight_print.specs.Scope.{post_text, posts_text, prop_text, pair_text, attr_text, ending_text}
+use Rattle.flight_print.specs.Text.{word, literal, comma_if, op_text, tag_name, name_at, shape_of, given_text, child_text, term_text, terms_text, props_text, pairs_text, attrs_text, children_text, each_text, said_name, program_text}
+use Rattle.flight_print.specs.Scope.{declared_names, post_text, posts_text, prop_text, pair_text, attr_text, ending_text}
 use Rattle.flight_print.proofs.Posts.{posted_text}
 use Rattle.flight_print.proofs.Trees.{grouped_five}
 
@@ -186,3 +188,12 @@ module _ (names scope : List (List ℕ)) where
       → word (codes ">") ++ (children_in children ++ (word (codes "</") ++ (word name ++ word (codes ">")))) ≡ ending_text names scope tag (terms_of (map term children))
   ending_whole tag [] b name e f n = absurd (false≢true (sym f ∙ e))
   ending_whole tag (x ∷ xs) b name e f n = ap (λ z. word (codes ">") ++ (children_in (x ∷ xs) ++ (word (codes "</") ++ (word z ++ word (codes ">"))))) n
+
+-- ---- programs
+
+names_mapped : (declared : List Declared) → map said_name (map said declared) ≡ declared_names declared
+names_mapped [] = refl
+names_mapped (d ∷ declared) = ap (λ z. said_name (said d) ∷ z) (names_mapped declared)
+
+pub program_written : (declared : List Declared) → each_text (declared_names declared) (map said declared) ≡ program_text (map said declared)
+program_written declared = ap (λ z. each_text z (map said declared)) (sym (names_mapped declared))

@@ -1,7 +1,7 @@
 ghost use Rattle.std.specs.Prelude.{◌≡◌, ◌++◌, ℕ, List, IfOk, OnOk, false, map, string_bytes};
 ghost use Rattle.flight_syntax.specs.Derives.{Derives, said};
 ghost use Rattle.flight_syntax.specs.Term.{term};
-ghost use Rattle.flight_print.specs.Text.{params_text, line_end, body_text, said_text, term_text, program_text};
+ghost use Rattle.flight_print.specs.Text.{params_text, line_end, body_text, said_text, each_text, term_text, program_text};
 ghost use Rattle.flight_print.specs.Scope.{declared_names};
 
 use crate::expression::write_expr;
@@ -21,14 +21,23 @@ pub fn print_program(alloc: Global, program: &Program) -> Result<Text, Memory>
 }
 
 /// The text of declarations.
+#[tactic(auto, using(crate::proofs::Written::program_written))]
 fn written(alloc: Global, declared: &[Declared]) -> Result<Text, Memory>
     ensures { IfOk result (λ text. text ≡ program_text (map said declared.now)) }
 {
     let mut out = String::new(alloc);
-    for one in declared {
-        write_declared(alloc, &mut out, declared, one)?;
-    }
+    write_each(alloc, &mut out, declared)?;
     Ok(Text::from_string(out))
+}
+
+/// Appends declarations.
+fn write_each(alloc: Global, out: &mut String, declared: &[Declared]) -> Result<(), Memory>
+    ensures { OnOk result (string_bytes out.new ≡ string_bytes out.old ++ each_text (declared_names declared.now) (map said declared.now)) }
+{
+    for one in declared {
+        write_declared(alloc, out, declared, one)?;
+    }
+    Ok(())
 }
 
 /// Appends a declaration, one of these.
