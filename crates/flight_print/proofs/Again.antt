@@ -1,12 +1,12 @@
 -- What is printed of a part of a program, as words that spell such a part again.
-use Rattle.std.proofs.Common.{◌≡◌, ℕ, zero, suc, ◌+◌, ◌<◌, ◌==◌, Bool, true, false, List, [], ◌∷◌, ◌++◌, Option, Some, None, refl, sym, ap, ap₂, subst, ◌∙◌, arith, append_assoc, append-nil}
+use Rattle.std.proofs.Common.{◌≡◌, ℕ, ◌+◌, ◌==◌, true, List, [], ◌∷◌, ◌++◌, Option, Some, refl, ap, ap₂, ◌∙◌, arith}
 use Rattle.std.proofs.lemmas.Bool.Decides.{nat_tests}
 use Rattle.flight_syntax.specs.declared.token.TokenKind.{TokenKind}
-use Rattle.flight_syntax.specs.declared.token.TokenKind.TheVariants.{Name, Number, Big, Text, Mark}
+use Rattle.flight_syntax.specs.declared.token.TokenKind.TheVariants.{Name, Mark}
 use Rattle.flight_syntax.specs.declared.word.Keyword.{Keyword}
 use Rattle.flight_syntax.specs.declared.word.Punctuator.{Punctuator}
 use Rattle.flight_syntax.specs.Pieces.{SpellsToken}
-use Rattle.flight_syntax.specs.Lexicon.{Placed, Word, Phrase, ◌▸◌, nothing, one, keyword, sign, spelled, sign_spelled, is_key, is_mark, key_number, sign_number, word_as, taken_where}
+use Rattle.flight_syntax.specs.Lexicon.{Placed, Word, ◌▸◌, nothing, one, keyword, sign, spelled, sign_spelled, is_key, is_mark, key_number, sign_number, word_as, taken_where}
 use Rattle.flight_print.specs.Text.{word}
 use Rattle.flight_print.specs.Pieces.{Piece, AreApart, text_of, words_at, total}
 use Rattle.flight_print.proofs.Lexing.{text_of-append, words_at-append, AreApart-append}

@@ -1,5 +1,5 @@
 -- Where the names of a program stand in its text changes neither its faults nor its meaning.
-use Rattle.std.proofs.Common.{◌≡◌, ℕ, suc, Bool, true, false, List, [], ◌∷◌, ◌++◌, map, Option, Some, None, refl, sym, ap, ap₂, ◌∙◌, if◌then◌else◌, codes}
+use Rattle.std.proofs.Common.{◌≡◌, ℕ, suc, Bool, true, false, List, [], ◌∷◌, ◌++◌, map, Some, refl, sym, ap, ap₂, ◌∙◌, if◌then◌else◌, codes}
 use Rattle.std.specs.Prelude.{◌||◌, option_map}
 use Rattle.std.specs.Str.{bytes_eq}
 use Rattle.json.specs.Json as json
@@ -128,7 +128,7 @@ repeated_plain : (before names : List Placed) → map plain_fault (repeated befo
 repeated_plain before [] = refl
 repeated_plain before (n ∷ names) =
     two (if is_named n.bytes before then twice n ∷ [] else []) (repeated (n ∷ before) names) (if is_named n.bytes (map unplaced before) then twice (unplaced n) ∷ [] else []) (repeated (map unplaced (n ∷ before)) (map unplaced names))
-      (if_plain (is_named n.bytes before) (twice n) ∙ ap (λ z. if z then twice (unplaced n) ∷ [] else []) (sym (named_plain n.bytes before))) (repeated_plain (n ∷ before) names)
+    (if_plain (is_named n.bytes before) (twice n) ∙ ap (λ z. if z then twice (unplaced n) ∷ [] else []) (sym (named_plain n.bytes before))) (repeated_plain (n ∷ before) names)
 
 children_plain : (names : List Placed) → map plain_fault (children_attributes names) ≡ children_attributes (map unplaced names)
 children_plain [] = refl
@@ -175,7 +175,7 @@ mutual
       (two (repeated [] (property_names a)) _ _ _ (repeated_plain [] (property_names a) ∙ ap (repeated []) (sym (properties_plain a)))
       (two (beside_children c (property_names a)) _ _ _ (beside_plain c (property_names a) ∙ ap (beside_children (plain_each c)) (sym (properties_plain a)))
       (two (keys_of (is_named n.bytes (servers all)) (property_names a)) _ _ _
-        (keys_of_plain (is_named n.bytes (servers all)) _ (property_names a) (ap (is_named n.bytes) (servers_plain all) ∙ named_plain n.bytes (servers all)) ∙ ap (keys_of (is_named n.bytes (servers (all_plain all)))) (sym (properties_plain a)))
+      (keys_of_plain (is_named n.bytes (servers all)) _ (property_names a) (ap (is_named n.bytes) (servers_plain all) ∙ named_plain n.bytes (servers all)) ∙ ap (keys_of (is_named n.bytes (servers (all_plain all)))) (sym (properties_plain a)))
       (two (faults_props all scope a) (faults_each all scope c) _ _ (props_plain all scope a) (each_plain all scope c)))))
   faults_plain all scope tree.too_deep = refl
   faults_plain all scope (tree.too_many of) = refl

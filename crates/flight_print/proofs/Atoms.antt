@@ -1,24 +1,23 @@
 -- Printed literals spell the same literals.
-use Rattle.std.proofs.Common.{◌≡◌, ℕ, zero, suc, ◌+◌, ◌<◌, ◌^◌, Bool, true, false, ◌⊎◌, inl, inr, List, [], ◌∷◌, ◌++◌, length, take, Option, Some, None, pos, negsuc, decimal, refl, sym, ap, subst, ◌∙◌, arith}
-use Rattle.std.specs.Prelude.{◌-◌, codes}
+use Rattle.std.proofs.Common.{◌≡◌, ℕ, zero, suc, ◌<◌, ◌^◌, Bool, true, false, inl, inr, List, [], ◌∷◌, ◌++◌, Option, Some, pos, negsuc, decimal, refl, ap, subst, ◌∙◌, arith}
+use Rattle.std.specs.Prelude.{codes}
 use Rattle.std.specs.Fmt.{digits}
 use Rattle.json.specs.Print.{quoted}
-use Rattle.serde_json.specs.Read.{read}
 use Rattle.flight_value.specs.declared.graph.Atom.{Atom}
 use Rattle.flight_value.specs.declared.graph.Atom.TheVariants as value
 use Rattle.flight_value.specs.declared.graph.Constant.TheVariants as constant
-use Rattle.flight_syntax.specs.declared.token.TokenKind.TheVariants.{Name, Number, Big, Text, Mark}
+use Rattle.flight_syntax.specs.declared.token.TokenKind.TheVariants.{Name, Number, Big, Text}
 use Rattle.flight_syntax.specs.declared.word.Keyword.{Keyword}
 use Rattle.flight_syntax.specs.declared.word.Keyword.TheVariants as keys
 use Rattle.flight_syntax.specs.declared.word.Punctuator.TheVariants.{Minus}
 use Rattle.flight_syntax.specs.Pieces as pieces
 use Rattle.flight_syntax.specs.Pieces.{IsNumber, IsNumeral}
-use Rattle.flight_syntax.specs.Lexicon.{Placed, Word, Phrase, ◌▸◌, one, keyword, sign, key, number, big, literal, spelled, word_as, string_in, taken_where, is_date, constant_of, negative_of, date_of, symbol_of, text_of, minus, big_minus}
+use Rattle.flight_syntax.specs.Lexicon.{Word, Phrase, one, key, number, big, literal, spelled, word_as, string_in, taken_where, is_date, constant_of, negative_of, date_of, symbol_of, minus, big_minus}
 use Rattle.flight_syntax.specs.Grammar.{Constant}
 use Rattle.flight_print.specs.Text as printed
 use Rattle.flight_print.specs.Text.{word, atom_text}
 use Rattle.flight_print.proofs.Numerals.{decimal_numeral, decimal_number, decimal_big, read_quoted, quoted_text}
-use Rattle.flight_print.proofs.Said.{IsSaid, AreSaid, left, right, key_named, key_word, number_said, big_said, but_last}
+use Rattle.flight_print.proofs.Said.{IsSaid, AreSaid, right, key_named, key_word, number_said, big_said, but_last}
 use Rattle.flight_print.proofs.Again.{Again, U, token_again, made_again, so_again, key_before, sign_before}
 
 -- a phrase that says one thing

@@ -1,16 +1,15 @@
 -- The compact JSON of a client component spells JSON that is read as the same.
-use Rattle.std.proofs.Common.{◌≡◌, ℕ, zero, suc, ◌+◌, ◌<◌, ◌^◌, Bool, true, false, ◌⊎◌, inl, inr, List, [], ◌∷◌, ◌++◌, length, get_or, Option, Some, None, pos, negsuc, decimal, refl, sym, ap, ap₂, subst, ◌∙◌, arith, append_assoc, append-nil, option_map, if◌then◌else◌, codes, Ordering, Less, Equal, Greater}
+use Rattle.std.proofs.Common.{◌≡◌, ℕ, zero, suc, ◌+◌, ◌<◌, ◌^◌, Bool, true, false, inl, inr, List, [], ◌∷◌, ◌++◌, length, Option, Some, None, pos, negsuc, decimal, refl, sym, ap, ap₂, subst, ◌∙◌, arith, append_assoc, append-nil, option_map, if◌then◌else◌, codes, Ordering, Less, Equal, Greater}
 use Rattle.std.specs.Prelude.{option_and_then}
 use Rattle.std.specs.Ordering.{nat_cmp, match_ordering, ordering_reverse}
 use Rattle.std.specs.Cmp.Lexicographic.{slice_cmp}
-use Rattle.std.specs.Fmt.{signed_decimal}
 use Rattle.std.specs.Str.{bytes_eq}
 use Rattle.std.proofs.lemmas.Cmp.{nat_list_cmp_total}
 use Rattle.json.specs.Json as json
 use Rattle.json.specs.Print.{quoted}
 use Rattle.serde_json.specs.Data.{Num, unsigned, negative, float, Data, null, boolean, number, string, array, object, Items, no_items, item, Members, no_members, member, put}
 use Rattle.serde_json.specs.Read.{number_of, of_json, of_items, of_members}
-use Rattle.serde_json.specs.Written.{number_text, outline, items_outline, members_outline, comma_if, compact_text, items_text, members_text}
+use Rattle.serde_json.specs.Written.{outline, items_outline, members_outline, comma_if, compact_text, items_text, members_text}
 use Rattle.serde_json.proofs.Numbers.{number_of-decimal, number_of-negative}
 use Rattle.flight_text.specs.Ordered.{names, Below, OrderedMembers}
 use Rattle.flight_text.proofs.Ordered.{put-ordered}
@@ -29,7 +28,7 @@ use Rattle.flight_print.specs.Pieces as pieces
 use Rattle.flight_print.specs.Pieces.{Piece, EndsBy, AreApart, words_at, total}
 use Rattle.flight_print.proofs.Lexing.{text_of-append, words_at-append}
 use Rattle.flight_print.proofs.Numerals.{decimal_number, quoted_text, decimal_of}
-use Rattle.flight_print.proofs.Said.{IsSaid, AreSaid, left, right, number_said, deep_said, sign_marked, sign_word}
+use Rattle.flight_print.proofs.Said.{IsSaid, AreSaid, left, right, number_said, deep_said, sign_word}
 use Rattle.flight_print.proofs.Again.{Again, same_sign}
 use Rattle.flight_print.proofs.Atoms.{text_word, zero_text}
 
@@ -153,7 +152,7 @@ mutual
       let a = m.3.4 in
       let q = right m.3.0 m.3.1 m.3.2 (left m.0 m.1 m.2 r) in
       if_then (Fits l) (λ ms. OrderedMembers ms × MembersFit l ms) (λ d. of_members ms (put k d found)) (of_json j)
-        (λ d w. more_members_fit ms l m.1 (right m.0 m.1 m.2 r) m.4 (put k d found) (put-ordered k d found h.0, put_fits l k d found w h.1)) (json_fits j l a.1 (right a.0 a.1 a.2 q) a.4)
+      (λ d w. more_members_fit ms l m.1 (right m.0 m.1 m.2 r) m.4 (put k d found) (put-ordered k d found h.0, put_fits l k d found w h.1)) (json_fits j l a.1 (right a.0 a.1 a.2 q) a.4)
 
   more_members_fit : (ms : json.Members) (l : ℕ) (x : List Word) → AreSaid x → MoreJsonMembers ms l x → (found : Members) → OrderedMembers found × MembersFit l found → If (λ ms. OrderedMembers ms × MembersFit l ms) (of_members ms found)
   more_members_fit json.no_members l x r m found h = h
@@ -163,7 +162,7 @@ mutual
       let a = c.4 in
       let q = right c.0 c.1 c.2 p in
       if_then (Fits l) (λ ms. OrderedMembers ms × MembersFit l ms) (λ d. of_members ms (put k d found)) (of_json j)
-        (λ d w. more_members_fit ms l m.1 (right m.0 m.1 m.2 r) m.4 (put k d found) (put-ordered k d found h.0, put_fits l k d found w h.1)) (json_fits j l a.1 (right a.0 a.1 a.2 q) a.4)
+      (λ d w. more_members_fit ms l m.1 (right m.0 m.1 m.2 r) m.4 (put k d found) (put-ordered k d found h.0, put_fits l k d found w h.1)) (json_fits j l a.1 (right a.0 a.1 a.2 q) a.4)
 
 -- ---- such a value is read again from its outline
 
@@ -327,8 +326,13 @@ mutual
   data_spelled (suc l) (number (unsigned n)) h at = inl (_, refl, refl)
   data_spelled (suc l) (number (negative (pos n))) h at = absurd h
   data_spelled (suc l) (number (negative (negsuc n))) h at =
-      inr (_, _, words_at-append at (tight Minus ∷ []) (record { kind = Number; bytes = decimal (suc n); gap = [] } ∷ []), tight_spelled Minus at,
-        (_, ap (λ b. if b then None else Some (json.number (45 ∷ decimal (suc n)))) (not_zero n h), refl))
+      inr (
+        _,
+        _,
+        words_at-append at (tight Minus ∷ []) (record { kind = Number; bytes = decimal (suc n); gap = [] } ∷ []),
+        tight_spelled Minus at,
+        (_, ap (λ b. if b then None else Some (json.number (45 ∷ decimal (suc n)))) (not_zero n h), refl),
+      )
   data_spelled (suc l) (number (float x)) h at = absurd h
   data_spelled (suc l) (string s) h at = (_, ap json_of (text_word s at), refl)
   data_spelled (suc l) (array ds) h at = both (tight OpenBracket ∷ []) (items_pieces false ds) (tight_spelled OpenBracket) (items_spelled l ds h) at
@@ -354,7 +358,7 @@ mutual
       let m = member_spelled {S = SpellsJson (outline d) l} {R = MoreJsonMembers (members_outline ms) l ▸ sign CloseBrace} k (data_pieces d) (members_pieces true ms) (data_spelled l d h.0) (more_members_spelled l ms h.1) in
       let more = both {P = sign Comma} (tight Comma ∷ []) (tight_text k ∷ tight Colon ∷ (data_pieces d ++ members_pieces true ms)) (tight_spelled Comma) m at in
       ungrouped {P = sign Comma ▸ (Key k ▸ (sign Colon ▸ SpellsJson (outline d) l))} {Q = MoreJsonMembers (members_outline ms) l} {R = sign CloseBrace} _
-        (ungrouped {P = sign Comma} {Q = Key k ▸ (sign Colon ▸ SpellsJson (outline d) l)} {R = MoreJsonMembers (members_outline ms) l ▸ sign CloseBrace} _ more)
+      (ungrouped {P = sign Comma} {Q = Key k ▸ (sign Colon ▸ SpellsJson (outline d) l)} {R = MoreJsonMembers (members_outline ms) l ▸ sign CloseBrace} _ more)
 
 -- ---- none runs into the next
 
@@ -466,23 +470,41 @@ mutual
   more_items_apart : (l : ℕ) (ds : Items) (rest : List Piece) → ItemsFit l ds → Breaks rest → AreApart rest → AreApart (items_pieces true ds ++ rest)
   more_items_apart l no_items rest h b r = (refl, some_mark 93 (λ c. refl) rest (breaks_some rest b), r)
   more_items_apart l (item d ds) rest h b r =
-      let e = sym (append_assoc_pieces (data_pieces d) (items_pieces true ds) rest) in
-      (refl, some_mark 44 (λ c. refl) ((data_pieces d ++ items_pieces true ds) ++ rest) (subst IsSome e (data_some l d (items_pieces true ds ++ rest) h.0)),
-        subst AreApart e (data_apart l d (items_pieces true ds ++ rest) h.0 (later_breaks ds rest) (more_items_apart l ds rest h.1 b r)))
+      let e = sym (append_assoc_pieces (data_pieces d) (items_pieces true ds) rest) in (
+        refl,
+        some_mark 44 (λ c. refl) ((data_pieces d ++ items_pieces true ds) ++ rest) (subst IsSome e (data_some l d (items_pieces true ds ++ rest) h.0)),
+        subst AreApart e (data_apart l d (items_pieces true ds ++ rest) h.0 (later_breaks ds rest) (more_items_apart l ds rest h.1 b r)),
+      )
 
   members_apart : (l : ℕ) (ms : Members) (rest : List Piece) → MembersFit l ms → Breaks rest → AreApart rest → AreApart (members_pieces false ms ++ rest)
   members_apart l no_members rest h b r = (refl, some_mark 125 (λ c. refl) rest (breaks_some rest b), r)
   members_apart l (member k d ms) rest h b r =
-      let e = sym (append_assoc_pieces (data_pieces d) (members_pieces true ms) rest) in
-      ((k, quoted_text k), tt, (refl, some_mark 58 (λ c. refl) ((data_pieces d ++ members_pieces true ms) ++ rest) (subst IsSome e (data_some l d (members_pieces true ms ++ rest) h.0)),
-        subst AreApart e (data_apart l d (members_pieces true ms ++ rest) h.0 (later_members_break ms rest) (more_members_apart l ms rest h.1 b r))))
+      let e = sym (append_assoc_pieces (data_pieces d) (members_pieces true ms) rest) in (
+        (k, quoted_text k),
+        tt,
+        (
+          refl,
+          some_mark 58 (λ c. refl) ((data_pieces d ++ members_pieces true ms) ++ rest) (subst IsSome e (data_some l d (members_pieces true ms ++ rest) h.0)),
+          subst AreApart e (data_apart l d (members_pieces true ms ++ rest) h.0 (later_members_break ms rest) (more_members_apart l ms rest h.1 b r)),
+        ),
+      )
 
   more_members_apart : (l : ℕ) (ms : Members) (rest : List Piece) → MembersFit l ms → Breaks rest → AreApart rest → AreApart (members_pieces true ms ++ rest)
   more_members_apart l no_members rest h b r = (refl, some_mark 125 (λ c. refl) rest (breaks_some rest b), r)
   more_members_apart l (member k d ms) rest h b r =
-      let e = sym (append_assoc_pieces (data_pieces d) (members_pieces true ms) rest) in
-      (refl, refl, ((k, quoted_text k), tt, (refl, some_mark 58 (λ c. refl) ((data_pieces d ++ members_pieces true ms) ++ rest) (subst IsSome e (data_some l d (members_pieces true ms ++ rest) h.0)),
-        subst AreApart e (data_apart l d (members_pieces true ms ++ rest) h.0 (later_members_break ms rest) (more_members_apart l ms rest h.1 b r)))))
+      let e = sym (append_assoc_pieces (data_pieces d) (members_pieces true ms) rest) in (
+        refl,
+        refl,
+        (
+          (k, quoted_text k),
+          tt,
+          (
+            refl,
+            some_mark 58 (λ c. refl) ((data_pieces d ++ members_pieces true ms) ++ rest) (subst IsSome e (data_some l d (members_pieces true ms ++ rest) h.0)),
+            subst AreApart e (data_apart l d (members_pieces true ms ++ rest) h.0 (later_members_break ms rest) (more_members_apart l ms rest h.1 b r)),
+          ),
+        ),
+      )
 
 -- ---- a client component's JSON, and the end of the declaration
 

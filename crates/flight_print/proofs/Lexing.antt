@@ -1,10 +1,10 @@
 -- Printed tokens are read again.
-use Rattle.std.proofs.Common.{◌≡◌, ◌≢◌, ℕ, zero, suc, ◌+◌, ◌-◌, ◌<◌, ◌≤◌, ◌++◌, Bool, true, false, cond, List, [], ◌∷◌, length, map, take, drop, get_or, refl, sym, ◌∙◌, ap, subst, arith, append_assoc, length-append, length-drop}
-use Rattle.std.specs.Prelude.{◌^◌, slice_range, Some, None}
+use Rattle.std.proofs.Common.{◌≡◌, ◌≢◌, ℕ, ◌+◌, ◌-◌, ◌<◌, ◌≤◌, ◌++◌, Bool, true, false, cond, List, [], ◌∷◌, length, take, drop, get_or, refl, sym, ◌∙◌, ap, subst, arith, append_assoc, length-append, length-drop}
+use Rattle.std.specs.Prelude.{◌^◌, slice_range, Some}
 use Rattle.std.proofs.Math.Seq.{drop-drop}
 use Rattle.std.specs.List.{list_all, prefix_len}
 use Rattle.std.specs.Char.{is_ascii_digit}
-use Rattle.std.proofs.lemmas.Bool.{and_parts, false≢true, or_left, or_parts, eqb-true}
+use Rattle.std.proofs.lemmas.Bool.{and_parts, false≢true, or_left, or_parts}
 use Rattle.std.proofs.lemmas.Bool.Decides.{nat_tests}
 use Rattle.serde_json.specs.Data.{string}
 use Rattle.serde_json.specs.Read.{read}
@@ -12,11 +12,10 @@ use Rattle.flight_syntax.specs.declared.token.Token.{Token}
 use Rattle.flight_syntax.specs.declared.token.TokenKind.{TokenKind}
 use Rattle.flight_syntax.specs.declared.token.TokenKind.TheVariants.{Name, Number, Big, Text, Mark}
 use Rattle.flight_syntax.specs.declared.piece.Piece.TheVariants as piece
-use Rattle.flight_syntax.specs.Pieces.{SpellsToken, Stands, IsNumeral, IsNumber, IsBig, IsText, is_space, is_name, begins_name, is_name_byte, begins_pair, is_mark}
+use Rattle.flight_syntax.specs.Pieces.{SpellsToken, Stands, IsNumeral, IsNumber, IsText, is_space, is_name, begins_name, is_name_byte, begins_pair, is_mark}
 use Rattle.flight_syntax.specs.Tokens.{Reads, nothing, space, token, AreTokens}
 use Rattle.flight_syntax.specs.Lexicon.{Word, word_as, words_of}
-use Rattle.flight_syntax.specs.Literal.{closing}
-use Rattle.flight_syntax.proofs.Fronts.{Stands-name, Stands-space, no_empty}
+use Rattle.flight_syntax.proofs.Fronts.{Stands-name, Stands-space}
 use Rattle.flight_syntax.proofs.Numbers.{Stands-number, Stands-big}
 use Rattle.flight_syntax.proofs.Marks.{Stands-single, Stands-double}
 use Rattle.flight_syntax.proofs.Literals.{Stands-text}
@@ -64,7 +63,6 @@ name_stands (x ∷ xs) b ys h e =
     let all : list_all is_name_byte (x ∷ xs) ≡ true = rw (or_left (begins_name x) (is_ascii_digit x) parts.0) parts.1 in
     subst (λ n. Stands (piece.Token Name) (x ∷ (xs ++ b ∷ ys)) n) (prefix_ends is_name_byte (x ∷ xs) b ys all e) (Stands-name (x ∷ (xs ++ b ∷ ys)) (omega arith) parts.0)
 
-
 no_n : (b : ℕ) → is_name_byte b ≡ false → b ≢ 110
 no_n b h e = false≢true (sym h ∙ ap is_name_byte e)
 
@@ -90,7 +88,7 @@ number_stands xs number b ys is e =
     let some = is.is_numeral.some in
     subst (λ n. Stands (piece.Token Number) (xs ++ b ∷ ys) n) (digits_is xs b ys all d)
     (Stands-number (xs ++ b ∷ ys) number (omega (arith, some, length-append xs (b ∷ ys))) (first_digit xs b ys some all) (λ z. no_n b e (sym next ∙ z))
-      (subst (λ l. IsNumeral l number) (sym (digits_taken xs b ys all d)) is.is_numeral) is.within (λ l. ap is_name_byte next ∙ e))
+    (subst (λ l. IsNumeral l number) (sym (digits_taken xs b ys all d)) is.is_numeral) is.within (λ l. ap is_name_byte next ∙ e))
 
 big_stands : (xs : List ℕ) (number : ℕ) (b : ℕ) (ys : List ℕ) → IsNumeral xs number → number < 2 ^ 127 → is_name_byte b ≡ false → Stands (piece.Token Big) (xs ++ 110 ∷ b ∷ ys) (length xs + 1)
 big_stands xs number b ys is within e =
@@ -101,8 +99,8 @@ big_stands xs number b ys is within e =
     let behind : get_or text (length xs + 1) 0 ≡ b = ap (λ l. get_or l (length xs + 1) 0) (sym (append_assoc xs (110 ∷ []) (b ∷ ys))) ∙ (ap (λ n. get_or ((xs ++ 110 ∷ []) ++ b ∷ ys) n 0) (sym (length-append xs (110 ∷ []))) ∙ at_front (xs ++ 110 ∷ []) (b ∷ ys) 0) in
     subst (λ n. Stands (piece.Token Big) text (n + 1)) count
     (Stands-big text number (omega (arith, some, length-append xs (110 ∷ b ∷ ys))) (first_digit xs 110 (b ∷ ys) some all) (omega (arith, count, length-append xs (110 ∷ b ∷ ys))) (digits_next xs 110 (b ∷ ys) all refl)
-      (subst (λ l. IsNumeral l number) (sym (digits_taken xs 110 (b ∷ ys) all refl)) is) within
-      (λ l. ap (λ n. is_name_byte (get_or text (n + 1) 0)) count ∙ (ap is_name_byte behind ∙ e)))
+    (subst (λ l. IsNumeral l number) (sym (digits_taken xs 110 (b ∷ ys) all refl)) is) within
+    (λ l. ap (λ n. is_name_byte (get_or text (n + 1) 0)) count ∙ (ap is_name_byte behind ∙ e)))
 
 text_stands : (xs : List ℕ) (v ys : List ℕ) → IsText xs v → Stands (piece.Token Text) (xs ++ ys) (length xs)
 text_stands [] v ys is = let q = is.quoted in absurd cc

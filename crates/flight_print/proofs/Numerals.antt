@@ -1,5 +1,5 @@
 -- Decimal texts are numerals, and quoted ones are texts.
-use Rattle.std.proofs.Common.{◌≡◌, ◌≢◌, ℕ, zero, suc, ◌+◌, ◌-◌, ◌*◌, ◌^◌, ◌%◌, ◌<◌, ◌≤◌, true, List, [], ◌∷◌, ◌++◌, length, get_or, Some, decimal, refl, sym, ap, subst, ◌∙◌, arith, append-nil, length-append}
+use Rattle.std.proofs.Common.{◌≡◌, ◌≢◌, ℕ, zero, suc, ◌+◌, ◌-◌, ◌*◌, ◌^◌, ◌%◌, ◌<◌, ◌≤◌, true, List, [], ◌∷◌, ◌++◌, length, get_or, Some, decimal, refl, sym, ap, ◌∙◌, arith, append-nil, length-append}
 use Rattle.std.specs.Prelude.{option_and_then}
 use Rattle.std.proofs.Math.ListN.{get_or-append}
 use Rattle.std.specs.List.{list_all, fold}
@@ -13,7 +13,7 @@ use Rattle.std.proofs.lemmas.Fmt.{decimal_is_IsNumeral_wide, decimal_by_steps_wi
 use Rattle.json.specs.Token as tok
 use Rattle.json.specs.Lex.{tokens}
 use Rattle.json.specs.Json as json
-use Rattle.json.specs.Print.{print, print_from, ArePrintable, quoted, escape}
+use Rattle.json.specs.Print.{print_from, ArePrintable, quoted, escape}
 use Rattle.json.proofs.Printed.Tokens.{tokens-print}
 use Rattle.serde_json.specs.Data.{string}
 use Rattle.serde_json.specs.Read.{read, of_json, max_depth}
@@ -37,7 +37,7 @@ value_is (c ∷ ds) n h =
 first_is : (n : ℕ) → n < 10 ^ 64 → (0 < length (decimal n)) × (1 < length (decimal n) → get_or (decimal n) 0 0 ≢ 48)
 first_is n small =
     let p = decimal_by_steps_wide (λ m ds. (0 < length ds) × (0 < m → 48 < get_or ds 0 0) × (1 < length ds → 0 < m)) (λ m l. (omega arith, λ a. omega arith, λ a. omega arith))
-      (λ m ds l h. (omega (arith, length-append ds ((48 + m % 10) ∷ [])), (λ a. omega (arith, get_or-append ds ((48 + m % 10) ∷ []) 0 0 h.0, h.1 (omega arith))), λ a. omega (arith, l))) n small in
+    (λ m ds l h. (omega (arith, length-append ds ((48 + m % 10) ∷ [])), (λ a. omega (arith, get_or-append ds ((48 + m % 10) ∷ []) 0 0 h.0, h.1 (omega arith))), λ a. omega (arith, l))) n small in
     (p.0, λ l e. let f = p.1 (p.2 l) in omega (arith, f, e))
 
 pub decimal_numeral : (n : ℕ) → n < 10 ^ 64 → IsNumeral (decimal n) n

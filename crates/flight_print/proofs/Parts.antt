@@ -1,6 +1,5 @@
 -- Parts of trees without places, and how they stand in the text.
-use Rattle.std.proofs.Common.{◌≡◌, ℕ, zero, suc, ◌+◌, ◌<◌, Bool, true, false, ◌⊎◌, inl, inr, List, [], ◌∷◌, ◌++◌, map, Option, Some, None, refl, sym, ap, ap₂, subst, ◌∙◌, append_assoc, codes, option_map, if◌then◌else◌}
-use Rattle.std.specs.Prelude.{slice_get}
+use Rattle.std.proofs.Common.{◌≡◌, ℕ, suc, ◌+◌, Bool, true, false, List, [], ◌∷◌, ◌++◌, map, Option, Some, None, refl, sym, ap, subst, ◌∙◌, append_assoc, codes, option_map, if◌then◌else◌}
 use Rattle.std.specs.Str.{bytes_eq}
 use Rattle.json.specs.Print.{quoted}
 use Rattle.flight_value.specs.declared.graph.Atom.{Atom}
@@ -13,11 +12,11 @@ use Rattle.flight_syntax.specs.declared.token.TokenKind.TheVariants.{Name, Text,
 use Rattle.flight_syntax.specs.declared.word.Punctuator.{Punctuator}
 use Rattle.flight_syntax.specs.declared.word.Punctuator.TheVariants as signs
 use Rattle.flight_syntax.specs.Names.{is_lower}
-use Rattle.flight_syntax.specs.Lexicon.{Placed, Word, Phrase, ◌▸◌, nothing, one, sign, operator_of, mark, sign_spelled, name_of, plain_of, is_plain, lower, upper, literal, text_of, property_of, word_as, taken_where}
+use Rattle.flight_syntax.specs.Lexicon.{Placed, Word, ◌▸◌, one, sign, operator_of, mark, sign_spelled, name_of, plain_of, is_plain, lower, upper, text_of, property_of, word_as, taken_where}
 use Rattle.flight_syntax.specs.Pieces.{is_name}
 use Rattle.flight_syntax.specs.Tree as tree
 use Rattle.flight_syntax.specs.Tree.{Tree, Trees, TreeProps, TreePairs, Declaration, joined, joined_bytes, postfixes, IsBase, IsElement}
-use Rattle.flight_syntax.specs.Grammar.{Bare, Spells, MoreParts, AttributeName}
+use Rattle.flight_syntax.specs.Grammar.{Bare, MoreParts, AttributeName}
 use Rattle.flight_syntax.specs.Scope.{is_server, is_client, is_action, number_of, server_number, client_number, action_number, component_tag, tag_of}
 use Rattle.flight_syntax.specs.Meaning.{meaning}
 use Rattle.flight_syntax.specs.Term as term
@@ -28,9 +27,9 @@ use Rattle.flight_print.specs.Text.{word, name_at, op_text, tag_name, Shape, bar
 use Rattle.flight_print.specs.Pieces.{Piece, IsApart, AreApart, words_at, size}
 use Rattle.flight_print.specs.Pieces as pieces
 use Rattle.flight_print.proofs.Numerals.{quoted_text}
-use Rattle.flight_print.proofs.Alike.{unplaced, plain}
-use Rattle.flight_print.proofs.Said.{IsSaid, AreSaid, Takes, name_again, left, right, sign_marked, sign_word}
-use Rattle.flight_print.proofs.Again.{Again, U, Named, token_again, made_again, sign_again}
+use Rattle.flight_print.proofs.Alike.{plain}
+use Rattle.flight_print.proofs.Said.{AreSaid, Takes, name_again, left, right, sign_marked, sign_word}
+use Rattle.flight_print.proofs.Again.{Again, U, Named, token_again}
 use Rattle.flight_print.proofs.Atoms.{Alone, text_word}
 
 -- ---- without places
@@ -263,7 +262,9 @@ attribute_again named x r m =
           let new : Placed = record { bytes = first.bytes; at = at } in
           let again = more_parts parts others (at + size (record { kind = Name; bytes = first.bytes; gap = [] })) in
           let s = again.spelled in
-          let w : Word = word_as Name new in
-          (joined new again.parts, ap (λ z. record { bytes = z; at = 0 }) (again.same first.bytes ∙ ap (λ z. z.bytes) m.2),
-           (w ∷ s.0, s.1, ap (λ z. w ∷ z) s.2, (new, again.parts, refl, (w ∷ [], s.0, refl, (w, taken.again at, refl), s.3)), s.4));
+          let w : Word = word_as Name new in (
+            joined new again.parts,
+            ap (λ z. record { bytes = z; at = 0 }) (again.same first.bytes ∙ ap (λ z. z.bytes) m.2),
+            (w ∷ s.0, s.1, ap (λ z. w ∷ z) s.2, (new, again.parts, refl, (w ∷ [], s.0, refl, (w, taken.again at, refl), s.3)), s.4),
+          );
     }

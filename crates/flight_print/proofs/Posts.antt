@@ -6,7 +6,7 @@ use Rattle.flight_syntax.specs.declared.expr.Expr.{Expr}
 use Rattle.flight_syntax.specs.declared.expr.Postfix.{Postfix}
 use Rattle.flight_syntax.specs.Term.{Term, Post, term, post, named, indexed, posted, posted_one}
 use Rattle.flight_syntax.proofs.Terms.{term-Postfixed}
-use Rattle.flight_print.specs.Text.{Shape, other, shape_of, term_text}
+use Rattle.flight_print.specs.Text.{other, shape_of, term_text}
 use Rattle.flight_print.specs.Scope.{post_text, posts_text}
 
 -- what has a postfix is neither a text nor an element

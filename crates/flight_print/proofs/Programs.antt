@@ -1,34 +1,30 @@
 -- What is printed of a program is read as that program.
-use Rattle.std.proofs.Common.{◌≡◌, ℕ, zero, suc, Bool, true, false, List, [], ◌∷◌, ◌++◌, map, Option, Some, refl, sym, ap, ap₂, subst, ◌∙◌, append_assoc, codes}
+use Rattle.std.proofs.Common.{◌≡◌, ℕ, true, false, List, [], ◌∷◌, map, Option, Some, refl, sym, ap, ap₂, subst, ◌∙◌, codes}
 use Rattle.std.specs.List.{AllZip}
 use Rattle.serde_json.specs.Data.{Data}
 use Rattle.serde_json.specs.Read.{of_json}
 use Rattle.serde_json.specs.Written.{compact_text}
 use Rattle.json.specs.Json as json
 use Rattle.json.specs.Json.{Json}
-use Rattle.flight_syntax.specs.declared.program.Declared.{Declared}
 use Rattle.flight_syntax.specs.declared.word.Keyword.TheVariants.{Server, Client, Action}
 use Rattle.flight_syntax.specs.declared.word.Punctuator.TheVariants.{OpenParen, CloseParen, Comma, Semicolon, Assign}
 use Rattle.flight_syntax.specs.declared.token.TokenKind.TheVariants.{Mark}
-use Rattle.flight_syntax.specs.declared.token.Token.{Token}
-use Rattle.flight_syntax.specs.Tokens.{AreTokens}
-use Rattle.flight_syntax.specs.Lexicon.{Placed, Word, Phrase, ◌▸◌, nothing, one, keyword, sign, is_mark, lower_of, component_of, words_of}
+use Rattle.flight_syntax.specs.Lexicon.{Placed, Word, Phrase, ◌▸◌, one, sign, is_mark, lower_of, component_of, words_of}
 use Rattle.flight_syntax.specs.Tree as tree
 use Rattle.flight_syntax.specs.Tree.{Tree, Declaration}
-use Rattle.flight_syntax.specs.Grammar.{Spells, SpellsJson, Parameters, MoreParameters, Declares, DeclaresAll, most_levels}
+use Rattle.flight_syntax.specs.Grammar.{Spells, Parameters, MoreParameters, Declares, DeclaresAll, most_levels}
 use Rattle.flight_syntax.specs.Term.{Term}
 use Rattle.flight_syntax.specs.Scope.{Means}
 use Rattle.flight_syntax.specs.Meaning.{meaning}
-use Rattle.flight_syntax.specs.Faults.{program_faults, has_app}
-use Rattle.flight_syntax.specs.Derives.{Said, server, client, action, said, bytes_of, SaidAs, IsProgram, Derives}
+use Rattle.flight_syntax.specs.Derives.{Said, server, client, action, bytes_of, SaidAs, IsProgram}
 use Rattle.flight_syntax.proofs.Meanings.{one_meaning}
 use Rattle.flight_syntax.proofs.Bodies.{BodyMeans, BodiesMean, text_means}
-use Rattle.flight_print.specs.Text.{word, params_text, line_end, body_text, said_text, each_text, said_name, term_text, program_text}
-use Rattle.flight_print.specs.Pieces.{tokens_at, words_at, text_of}
+use Rattle.flight_print.specs.Text.{word, params_text, line_end, body_text, said_text, each_text, said_name, program_text}
+use Rattle.flight_print.specs.Pieces.{tokens_at, text_of}
 use Rattle.flight_print.proofs.Lexing.{are_tokens, are_words}
 use Rattle.flight_print.proofs.Alike.{unplaced, plain, plain_declaration, three, same_faultless, same_app, same_meaning}
-use Rattle.flight_print.proofs.Said.{IsSaid, AreSaid, Takes, left, right, text_said, lower_again, component_again, sign_marked, sign_word}
-use Rattle.flight_print.proofs.Again.{Again, U, Named, nothing_again, then_again, made_again, so_again, named_again, key_before, sign_before, same_sign}
+use Rattle.flight_print.proofs.Said.{IsSaid, AreSaid, Takes, left, right, text_said, lower_again, component_again, sign_word}
+use Rattle.flight_print.proofs.Again.{Again, U, Named, nothing_again, then_again, made_again, so_again, key_before, sign_before, same_sign}
 use Rattle.flight_print.proofs.Parts.{Like, names_of, name_of_declaration}
 use Rattle.flight_print.proofs.Trees.{again, taken, grouped}
 use Rattle.flight_print.proofs.Imports.{import_again}
@@ -44,13 +40,13 @@ more_params_again (p ∷ ps) x r m =
     let a = m.3 in
     so_again (grouped (word (codes ",")) (word p.bytes) (params_text true (bytes_of ps)))
     (made_again MoreParameters (Alike (p ∷ ps)) (then_again (sign_before Comma (taken lower_again p a.1 (right a.0 a.1 a.2 (left m.0 m.1 m.2 r)) a.4)) (more_params_again ps m.1 (right m.0 m.1 m.2 r) m.4))
-      (λ p. p.0 ∷ p.1) (λ p s. ap₂ (λ a b. a ∷ b) s.0 s.1) (λ p w s y. y))
+    (λ p. p.0 ∷ p.1) (λ p s. ap₂ (λ a b. a ∷ b) s.0 s.1) (λ p w s y. y))
 
 params_again : (ps : List Placed) (x : List Word) → AreSaid x → Parameters ps x → Again Parameters (Alike ps) (params_text false (bytes_of ps))
 params_again [] x r m = made_again Parameters (Alike []) nothing_again (λ b. []) (λ b s. refl) (λ b w s y. y)
 params_again (p ∷ ps) x r m =
     made_again Parameters (Alike (p ∷ ps)) (then_again (taken lower_again p m.0 (left m.0 m.1 m.2 r) m.3) (more_params_again ps m.1 (right m.0 m.1 m.2 r) m.4))
-      (λ p. p.0 ∷ p.1) (λ p s. ap₂ (λ a b. a ∷ b) s.0 s.1) (λ p w s y. y)
+    (λ p. p.0 ∷ p.1) (λ p s. ap₂ (λ a b. a ∷ b) s.0 s.1) (λ p w s y. y)
 
 -- ---- declarations
 
@@ -86,19 +82,19 @@ module _ (take : Word → Option Placed) (again_named : (w : Word) (named : Plac
       let params = params_again ps c.0 (left c.0 c.1 c.2 q) c.3 in
       let body = again all (bytes_of ps) b most_levels a.0 (left a.0 a.1 a.2 p) a.3 k in
       made_again (λ p. BodyOf p.0 p.1.0 p.1.1) (λ p. Named n p.0 × (Alike ps p.1.0 × Like b p.1.1))
-        (then_again named (sign_before OpenParen (then_again params (sign_before CloseParen (sign_before Assign (then_again body end_again))))))
-        (λ p. (p.0, (p.1.0, p.1.1.0))) (λ p s. (s.0, (s.1.0, s.1.1.0))) (λ p w s y. y)
+      (then_again named (sign_before OpenParen (then_again params (sign_before CloseParen (sign_before Assign (then_again body end_again))))))
+      (λ p. (p.0, (p.1.0, p.1.1.0))) (λ p s. (s.0, (s.1.0, s.1.1.0))) (λ p w s y. y)
 
 declaration_again : (all : List Declaration) (d : Declaration) (x : List Word) → AreSaid x → Declares d x → BodyMeans all d → (s : Said) → SaidAs all d s → Again Declares (SameAs d s) (said_text (names_of all) s)
 declaration_again all (tree.server n ps b) x r m k (server a c e) h =
     let same : e ≡ meaning all (bytes_of ps) b = one_meaning all (bytes_of ps) b e (meaning all (bytes_of ps) b) (subst (λ z. Means all z b e) h.1 h.2) k in
     let whole = made_again Declares (SameAs (tree.server n ps b) (server a c e)) (key_before Server (body_again component_of component_again all n ps b m.1 (right m.0 m.1 m.2 r) m.4 k))
-      (λ p. tree.server p.0 p.1.0 p.1.1) (λ p s. (three tree.server s.0 s.1.0 s.1.1, tt)) (λ p w s y. y) in
+    (λ p. tree.server p.0 p.1.0 p.1.1) (λ p s. (three tree.server s.0 s.1.0 s.1.1, tt)) (λ p w s y. y) in
     so_again (sym (three (λ a c e. said_text (names_of all) (server a c e)) h.0 h.1 same)) whole
 declaration_again all (tree.action_is n ps b) x r m k (action a c e) h =
     let same : e ≡ meaning all (bytes_of ps) b = one_meaning all (bytes_of ps) b e (meaning all (bytes_of ps) b) (subst (λ z. Means all z b e) h.1 h.2) k in
     let whole = made_again Declares (SameAs (tree.action_is n ps b) (action a c e)) (key_before Action (body_again lower_of lower_again all n ps b m.1 (right m.0 m.1 m.2 r) m.4 k))
-      (λ p. tree.action_is p.0 p.1.0 p.1.1) (λ p s. (three tree.action_is s.0 s.1.0 s.1.1, tt)) (λ p w s y. y) in
+    (λ p. tree.action_is p.0 p.1.0 p.1.1) (λ p s. (three tree.action_is s.0 s.1.0 s.1.1, tt)) (λ p w s y. y) in
     so_again (sym (three (λ a c e. said_text (names_of all) (action a c e)) h.0 h.1 same)) whole
 declaration_again all (tree.client_is n j) x r m k (client a i) h =
     let q = right m.0 m.1 m.2 r in
@@ -107,7 +103,7 @@ declaration_again all (tree.client_is n j) x r m k (client a i) h =
     let named = taken component_again n m.4.0 (left m.4.0 m.4.1 m.4.2 q) m.4.3 in
     let import = import_again most_levels j h.1.0 c.0 (left c.0 c.1 c.2 p) c.3 h.1.1 in
     let whole = made_again Declares (SameAs (tree.client_is n j) (client a i)) (key_before Client (then_again named (sign_before Assign import)))
-      (λ p. tree.client_is p.0 p.1) (λ p s. (ap (λ z. tree.client_is z json.null) s.0, (h.1.0, s.1, h.1.2))) (λ p w s y. y) in
+    (λ p. tree.client_is p.0 p.1) (λ p s. (ap (λ z. tree.client_is z json.null) s.0, (h.1.0, s.1, h.1.2))) (λ p w s y. y) in
     so_again (sym (ap₂ (λ a i. said_text (names_of all) (client a i)) h.0 h.1.2)) whole
 declaration_again all _ x r m k _ h = absurd h
 
@@ -120,7 +116,7 @@ declarations_again : (all ds : List Declaration) (x : List Word) → AreSaid x �
 declarations_again all [] x r m k [] h = made_again DeclaresAll (AllSame [] []) nothing_again (λ b. []) (λ b s. (refl, tt)) (λ b w s y. y)
 declarations_again all (d ∷ ds) x r m k (s ∷ ss) h =
     made_again DeclaresAll (AllSame (d ∷ ds) (s ∷ ss)) (then_again (declaration_again all d m.0 (left m.0 m.1 m.2 r) m.3 k.0 s h.0) (declarations_again all ds m.1 (right m.0 m.1 m.2 r) m.4 k.1 ss h.1))
-      (λ p. p.0 ∷ p.1) (λ p s. (ap₂ (λ a b. a ∷ b) s.0.0 s.1.0, (s.0.1, s.1.1))) (λ p w s y. y)
+    (λ p. p.0 ∷ p.1) (λ p s. (ap₂ (λ a b. a ∷ b) s.0.0 s.1.0, (s.0.1, s.1.1))) (λ p w s y. y)
 declarations_again all [] x r m k (s ∷ ss) h = absurd h
 declarations_again all (d ∷ ds) x r m k [] h = absurd h
 

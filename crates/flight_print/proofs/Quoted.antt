@@ -1,10 +1,10 @@
 -- Quoted texts as they are written.
-use Rattle.std.proofs.Common.{arith, ◌≡◌, ℕ, ◌/◌, ◌%◌, Bool, true, false, cond, List, [], ◌∷◌, ◌++◌, refl, sym, ap, ap₂, ◌∙◌, append_assoc, codes}
-use Rattle.std.specs.Prelude.{flat_map, nat_eq, nat_lt}
+use Rattle.std.proofs.Common.{arith, ◌≡◌, ℕ, List, [], ◌∷◌, ◌++◌, refl, ap, ap₂, ◌∙◌, append_assoc}
+use Rattle.std.specs.Prelude.{flat_map}
 use Rattle.std.proofs.lemmas.Bool.Decides.{nat_tests}
 use Rattle.json.specs.Print.{escape_byte, escape, quoted}
 use Rattle.flight_graph.specs.Text.{escaped, string_text}
-use Rattle.flight_print.specs.Text.{word, literal}
+use Rattle.flight_print.specs.Text.{literal}
 
 escaped_byte : (b : ℕ) → escaped b ≡ escape_byte b
 unfolding escape_byte

@@ -1,5 +1,5 @@
 -- Words that tokens say.
-use Rattle.std.proofs.Common.{◌≡◌, ℕ, zero, suc, ◌<◌, Bool, true, false, List, [], ◌∷◌, ◌++◌, length, length-append, Option, Some, None, refl, sym, ap, subst, ◌∙◌, arith, if◌then◌else◌}
+use Rattle.std.proofs.Common.{◌≡◌, ℕ, suc, ◌<◌, Bool, true, false, List, [], ◌∷◌, ◌++◌, length, length-append, Option, Some, None, refl, sym, ap, subst, ◌∙◌, arith, if◌then◌else◌}
 use Rattle.std.specs.Prelude.{◌^◌, ◌-◌, slice_index, codes, take}
 use Rattle.std.specs.Str.{bytes_eq}
 use Rattle.std.proofs.Math.Seq.{take-append_seam}
@@ -13,8 +13,8 @@ use Rattle.flight_syntax.specs.declared.word.Keyword.TheVariants as keys
 use Rattle.flight_syntax.specs.declared.word.Punctuator.{Punctuator}
 use Rattle.flight_syntax.specs.declared.word.Punctuator.TheVariants as signs
 use Rattle.flight_syntax.specs.Pieces.{SpellsToken, is_name, is_mark, IsNumber, IsNumeral}
-use Rattle.flight_syntax.specs.Tokens.{Reads, AreTokens, IsTokenOf}
-use Rattle.flight_syntax.specs.Lexicon.{Placed, Word, key, lower, upper, number, big, literal, mark, deep, beyond, spelled, sign_spelled, keyword_of, sign_of, name_word, mark_word, word_as, words_of, name_of, lower_of, upper_of, plain_of, component_of}
+use Rattle.flight_syntax.specs.Tokens.{AreTokens, IsTokenOf}
+use Rattle.flight_syntax.specs.Lexicon.{Placed, Word, key, lower, upper, number, big, mark, deep, spelled, sign_spelled, keyword_of, sign_of, name_word, mark_word, word_as, words_of, name_of, lower_of, upper_of, plain_of, component_of}
 use Rattle.flight_syntax.proofs.Spellings.{Reads-each}
 
 -- the word is what a token says

@@ -1,22 +1,21 @@
 -- What is printed of a tree spells the same tree, but for places.
-use Rattle.std.proofs.Common.{◌≡◌, ℕ, zero, suc, ◌<◌, Bool, true, false, ◌⊎◌, inl, inr, List, [], ◌∷◌, ◌++◌, Option, Some, None, refl, sym, ap, ap₂, subst, ◌∙◌, append_assoc, append-nil, codes}
+use Rattle.std.proofs.Common.{◌≡◌, ℕ, zero, suc, ◌<◌, true, false, ◌⊎◌, inl, inr, List, [], ◌∷◌, ◌++◌, Option, Some, refl, sym, ap, ap₂, subst, ◌∙◌, append_assoc, codes}
 use Rattle.std.specs.Prelude.{unwrap_or}
-use Rattle.flight_value.specs.declared.graph.Atom.TheVariants as value
 use Rattle.flight_syntax.specs.declared.word.Keyword.TheVariants.{Let, In, If, Then, Else, For, Give, Throw, Map, Set, Use, Promise, Stream, Action, With}
 use Rattle.flight_syntax.specs.declared.word.Punctuator.TheVariants.{OpenParen, CloseParen, OpenBracket, CloseBracket, OpenBrace, CloseBrace, Comma, Colon, Dot, Assign, Less, Greater, LessSlash, SlashGreater}
 use Rattle.flight_syntax.specs.Lexicon.{Placed, Word, Phrase, ◌▸◌, nothing, one, keyword, sign, lower_of, upper_of, plain_of, name_of, property_of, is_plain, is_deep}
 use Rattle.flight_syntax.specs.Tree as tree
 use Rattle.flight_syntax.specs.Tree.{Tree, Trees, TreeProps, TreePairs, Declaration, IsElement, postfixes}
-use Rattle.flight_syntax.specs.Grammar.{Bare, Beyond, Spells, Listed, MoreListed, Properties, MoreProperties, Entries, MoreEntries, AttributeName, Attributes, Children, most_postfixes}
-use Rattle.flight_syntax.specs.Scope.{IsInnermost, action_number, client_number, tag_of, Means, MeansEach, MeansProps, MeansPairs}
-use Rattle.flight_syntax.specs.Meaning.{innermost, given, given_tag, meaning, meanings, meaning_props, meaning_pairs}
+use Rattle.flight_syntax.specs.Grammar.{Bare, Beyond, Spells, Listed, MoreListed, Properties, MoreProperties, Entries, MoreEntries, Attributes, Children, most_postfixes}
+use Rattle.flight_syntax.specs.Scope.{action_number, client_number, tag_of, Means, MeansEach, MeansProps, MeansPairs}
+use Rattle.flight_syntax.specs.Meaning.{given, given_tag, meaning, meanings, meaning_props, meaning_pairs}
 use Rattle.flight_print.specs.Text as printed
 use Rattle.flight_print.specs.Text.{word, name_at, Shape, bare, element, other, braced, given_text, child_text, term_text, terms_text, props_text, pairs_text, attrs_text, children_text}
-use Rattle.flight_print.proofs.Alike.{unplaced, plain, plain_each, plain_props, plain_pairs, three}
+use Rattle.flight_print.proofs.Alike.{unplaced, plain_each, plain_props, plain_pairs, three}
 use Rattle.flight_print.proofs.Said.{IsSaid, AreSaid, Takes, left, right, lower_again, upper_again, plain_again, name_again, deep_said}
-use Rattle.flight_print.proofs.Again.{Again, U, Named, nothing_again, then_again, made_again, so_again, keyword_again, sign_again, named_again, key_before, sign_before, sign_behind}
-use Rattle.flight_print.proofs.Atoms.{Alone, atom_again}
-use Rattle.flight_print.proofs.Parts.{Like, same_base, same_posts, same_element, shape, bare_shape, element_shape, shape_bare, shape_element, bare_again, property_again, op_again, names_of, client_name, action_name, tag_named, closing_again, attribute_again}
+use Rattle.flight_print.proofs.Again.{Again, Named, nothing_again, then_again, made_again, so_again, sign_again, named_again, key_before, sign_before, sign_behind}
+use Rattle.flight_print.proofs.Atoms.{atom_again}
+use Rattle.flight_print.proofs.Parts.{Like, same_base, same_posts, same_element, shape, bare_shape, shape_bare, shape_element, bare_again, property_again, op_again, names_of, client_name, action_name, tag_named, closing_again, attribute_again}
 
 -- ---- one word
 
@@ -104,21 +103,21 @@ element_made : (named : Placed) (attrs : TreeProps) (children : Trees) (d : ℕ)
     → Again (λ u. Spells u (suc d)) (Like (tree.element named attrs children)) s
 element_made named attrs children d s x =
     made_again (λ u. Spells u (suc d)) (Like (tree.element named attrs children)) x (λ p. tree.element p.0 p.1.0 p.1.1) (λ p s. three tree.element s.0 s.1.0 s.1.1)
-      (λ p w s m. subst (λ q. ElementOf q p.0 p.1.0 p.1.1 d w) (sym (bytes_same p.0 named s.0)) m)
+    (λ p w s m. subst (λ q. ElementOf q p.0 p.1.0 p.1.1 d w) (sym (bytes_same p.0 named s.0)) m)
 
 -- an element without children, and with some
 childless : (named : Placed) (attrs : TreeProps) (d : ℕ) (s : List ℕ) → Again (one plain_of) (Named named) (word named.bytes) → Again (λ a. Attributes a d) (λ a. plain_props a ≡ plain_props attrs) s
     → Again (λ u. Spells u (suc d)) (Like (tree.element named attrs tree.no_trees)) (word (codes "<") ++ (word named.bytes ++ (s ++ word (codes "/>"))))
 childless named attrs d s name props =
     element_made named attrs tree.no_trees d _ (sign_before Less (then_again name (then_again props
-      (made_again (λ c. Ends named.bytes c d) (λ c. plain_each c ≡ tree.no_trees) (sign_again SlashGreater) (λ b. tree.no_trees) (λ b s. refl) (λ b w s m. inl (refl, m))))))
+    (made_again (λ c. Ends named.bytes c d) (λ c. plain_each c ≡ tree.no_trees) (sign_again SlashGreater) (λ b. tree.no_trees) (λ b s. refl) (λ b w s m. inl (refl, m))))))
 
 with_children : (named : Placed) (attrs : TreeProps) (children : Trees) (d : ℕ) (s t : List ℕ) → Again (one plain_of) (Named named) (word named.bytes) → Takes plain_of named.bytes → Again (λ a. Attributes a d) (λ a. plain_props a ≡ plain_props attrs) s
     → Again (λ c. Children c d) (λ c. plain_each c ≡ plain_each children) t
     → Again (λ u. Spells u (suc d)) (Like (tree.element named attrs children)) (word (codes "<") ++ (word named.bytes ++ (s ++ (word (codes ">") ++ (t ++ (word (codes "</") ++ (word named.bytes ++ word (codes ">"))))))))
 with_children named attrs children d s t name h props each =
     element_made named attrs children d _ (sign_before Less (then_again name (then_again props
-      (made_again (λ c. Ends named.bytes c d) (λ c. plain_each c ≡ plain_each children) (sign_before Greater (then_again each (sign_before LessSlash (sign_behind Greater (closing_again named.bytes h))))) (λ p. p.0) (λ p s. s.0) (λ p w s m. inr m)))))
+    (made_again (λ c. Ends named.bytes c d) (λ c. plain_each c ≡ plain_each children) (sign_before Greater (then_again each (sign_before LessSlash (sign_behind Greater (closing_again named.bytes h))))) (λ p. p.0) (λ p s. s.0) (λ p w s m. inr m)))))
 
 taken_plain : (named : Placed) (x : List Word) → AreSaid x → one plain_of named x → Takes plain_of named.bytes
 taken_plain named x r o = plain_again o.0 named (subst AreSaid o.2 r).0 o.1
@@ -164,7 +163,7 @@ mutual
       let value = again all scope v d a.0 (left a.0 a.1 a.2 q) a.3 k.1 in
       let rest = again all (scope ++ n.bytes ∷ []) b d a.4.1 (right a.4.0 a.4.1 a.4.2 (right a.0 a.1 a.2 q)) a.4.4 k.2 in
       made_again (λ u. Spells u (suc d)) (Like (tree.let_in n v b)) (key_before Let (then_again name (sign_before Assign (then_again value (key_before In rest)))))
-        (λ p. tree.let_in p.0 p.1.0 p.1.1) (λ p s. three tree.let_in s.0 s.1.0 s.1.1) (λ p w s y. y)
+      (λ p. tree.let_in p.0 p.1.0 p.1.1) (λ p s. three tree.let_in s.0 s.1.0 s.1.1) (λ p w s y. y)
   again all scope (tree.if_else t y o) (suc d) x r m k =
       let a = m.4 in
       let q = right m.0 m.1 m.2 r in
@@ -174,7 +173,7 @@ mutual
       let one_way = again all scope y d b.0 (left b.0 b.1 b.2 p) b.3 k.1 in
       let other_way = again all scope o d b.4.1 (right b.4.0 b.4.1 b.4.2 (right b.0 b.1 b.2 p)) b.4.4 k.2 in
       made_again (λ u. Spells u (suc d)) (Like (tree.if_else t y o)) (key_before If (then_again test (key_before Then (then_again one_way (key_before Else other_way)))))
-        (λ p. tree.if_else p.0 p.1.0 p.1.1) (λ p s. three tree.if_else s.0 s.1.0 s.1.1) (λ p w s y. y)
+      (λ p. tree.if_else p.0 p.1.0 p.1.1) (λ p s. three tree.if_else s.0 s.1.0 s.1.1) (λ p w s y. y)
   again all scope (tree.for_in n o g) (suc d) x r m k =
       let p = right m.0 m.1 m.2 r in
       let a = m.4.4.4 in
@@ -183,7 +182,7 @@ mutual
       let over = again all scope o d a.0 (left a.0 a.1 a.2 q) a.3 k.1 in
       let give = again all (scope ++ n.bytes ∷ []) g d a.4.1 (right a.4.0 a.4.1 a.4.2 (right a.0 a.1 a.2 q)) a.4.4 k.2 in
       made_again (λ u. Spells u (suc d)) (Like (tree.for_in n o g)) (key_before For (then_again name (key_before In (then_again over (key_before Give give)))))
-        (λ p. tree.for_in p.0 p.1.0 p.1.1) (λ p s. three tree.for_in s.0 s.1.0 s.1.1) (λ p w s y. y)
+      (λ p. tree.for_in p.0 p.1.0 p.1.1) (λ p s. three tree.for_in s.0 s.1.0 s.1.1) (λ p w s y. y)
   again all scope (tree.throw v) (suc d) x r m k =
       made_again (λ u. Spells u (suc d)) (Like (tree.throw v)) (key_before Throw (again all scope v d m.1 (right m.0 m.1 m.2 r) m.4 k)) (λ u. tree.throw u) (λ u s. ap tree.throw s) (λ u w s y. y)
   again all scope (tree.member of n) (suc d) x r m k =
@@ -191,14 +190,14 @@ mutual
       let q = right a.0 a.1 a.2 r in
       let name = taken name_again n a.4.1 (right a.4.0 a.4.1 a.4.2 q) a.4.4 in
       made_again (λ u. Spells u (suc d)) (Like (tree.member of n)) (then_again (again all scope of (suc d) a.0 (left a.0 a.1 a.2 r) a.3 k.1) (sign_before Dot name))
-        (λ p. tree.member p.0 p.1) (λ p s. ap₂ tree.member s.0 s.1) (λ p w s y. (same_base of p.0 s.0 m.0, subst (λ z. z < most_postfixes) (sym (same_posts of p.0 s.0)) m.1, y))
+      (λ p. tree.member p.0 p.1) (λ p s. ap₂ tree.member s.0 s.1) (λ p w s y. (same_base of p.0 s.0 m.0, subst (λ z. z < most_postfixes) (sym (same_posts of p.0 s.0)) m.1, y))
   again all scope (tree.index of t) (suc d) x r m k =
       let a = m.2 in
       let b = a.4.4 in
       let q = right a.4.0 a.4.1 a.4.2 (right a.0 a.1 a.2 r) in
       made_again (λ u. Spells u (suc d)) (Like (tree.index of t))
-        (then_again (again all scope of (suc d) a.0 (left a.0 a.1 a.2 r) a.3 k.0) (sign_before OpenBracket (sign_behind CloseBracket (again all scope t d b.0 (left b.0 b.1 b.2 q) b.3 k.1))))
-        (λ p. tree.index p.0 p.1) (λ p s. ap₂ tree.index s.0 s.1) (λ p w s y. (same_base of p.0 s.0 m.0, subst (λ z. z < most_postfixes) (sym (same_posts of p.0 s.0)) m.1, y))
+      (then_again (again all scope of (suc d) a.0 (left a.0 a.1 a.2 r) a.3 k.0) (sign_before OpenBracket (sign_behind CloseBracket (again all scope t d b.0 (left b.0 b.1 b.2 q) b.3 k.1))))
+      (λ p. tree.index p.0 p.1) (λ p s. ap₂ tree.index s.0 s.1) (λ p w s y. (same_base of p.0 s.0 m.0, subst (λ z. z < most_postfixes) (sym (same_posts of p.0 s.0)) m.1, y))
   again all scope (tree.too_many of) (suc d) x r m k = absurd k
   again all scope (tree.atom v) (suc d) x r m k = made_again (λ u. Spells u (suc d)) (Like (tree.atom v)) (atom_again v x r m) (λ b. tree.atom v) (λ b s. refl) (λ b w s y. y)
   again all scope (tree.variable n) (suc d) x r m k =
@@ -227,7 +226,7 @@ mutual
       made_again (λ u. Spells u (suc d)) (Like (tree.stream n)) (key_before Stream (taken plain_again n m.1 (right m.0 m.1 m.2 r) m.4)) (λ n. tree.stream n) (λ n s. ap tree.stream s) (λ n w s y. y)
   again all scope (tree.action n) (suc d) x r m k =
       made_again (λ u. Spells u (suc d)) (Like (tree.action n))
-        (key_before Action (so_again (ap word (sym (action_name all n.bytes (given (action_number all n.bytes)) k))) (taken lower_again n m.1 (right m.0 m.1 m.2 r) m.4))) (λ n. tree.action n) (λ n s. ap tree.action s) (λ n w s y. y)
+      (key_before Action (so_again (ap word (sym (action_name all n.bytes (given (action_number all n.bytes)) k))) (taken lower_again n m.1 (right m.0 m.1 m.2 r) m.4))) (λ n. tree.action n) (λ n s. ap tree.action s) (λ n w s y. y)
   again all scope (tree.action_with n l) (suc d) x r m k =
       let q = right m.0 m.1 m.2 r in
       let p = right m.4.0 m.4.1 m.4.2 q in
@@ -235,7 +234,7 @@ mutual
       let o = right m.4.4.4.0 m.4.4.4.1 m.4.4.4.2 (right m.4.4.0 m.4.4.1 m.4.4.2 p) in
       let name = so_again (ap word (sym (action_name all n.bytes (given (action_number all n.bytes)) k.0))) (taken lower_again n m.4.0 (left m.4.0 m.4.1 m.4.2 q) m.4.3) in
       made_again (λ u. Spells u (suc d)) (Like (tree.action_with n l)) (key_before Action (then_again name (key_before With (sign_before OpenBracket (sign_behind CloseBracket (each_again all scope l d b.0 (left b.0 b.1 b.2 o) b.3 k.1))))))
-        (λ p. tree.action_with p.0 p.1) (λ p s. ap₂ tree.action_with s.0 s.1) (λ p w s y. y)
+      (λ p. tree.action_with p.0 p.1) (λ p s. ap₂ tree.action_with s.0 s.1) (λ p w s y. y)
   again all scope (tree.paren t) (suc d) x r m k =
       let a = m.4 in
       made_again (λ u. Spells u (suc d)) (Like (tree.paren t)) (sign_before OpenParen (sign_behind CloseParen (again all scope t d a.0 (left a.0 a.1 a.2 (right m.0 m.1 m.2 r)) a.3 k))) (λ t. tree.paren t) (λ t s. ap tree.paren s) (λ t w s y. y)
@@ -245,8 +244,8 @@ mutual
       let b = a.4.4 in
       let p = right a.4.0 a.4.1 a.4.2 (right a.0 a.1 a.2 q) in
       made_again (λ u. Spells u (suc d)) (Like (tree.binary o l g))
-        (sign_before OpenParen (then_again (again all scope l d a.0 (left a.0 a.1 a.2 q) a.3 k.1) (then_again (op_again o) (sign_behind CloseParen (again all scope g d b.0 (left b.0 b.1 b.2 p) b.3 k.2)))))
-        (λ p. tree.binary o p.0 p.1.1) (λ p s. ap₂ (tree.binary o) s.0 s.1.1) (λ p w s y. y)
+      (sign_before OpenParen (then_again (again all scope l d a.0 (left a.0 a.1 a.2 q) a.3 k.1) (then_again (op_again o) (sign_behind CloseParen (again all scope g d b.0 (left b.0 b.1 b.2 p) b.3 k.2)))))
+      (λ p. tree.binary o p.0 p.1.1) (λ p s. ap₂ (tree.binary o) s.0 s.1.1) (λ p w s y. y)
   again all scope (tree.element n a tree.no_trees) (suc d) x r m k =
       let q = right m.0 m.1 m.2 r in
       let p = right m.4.0 m.4.1 m.4.2 q in
@@ -263,13 +262,13 @@ mutual
       let children = ended t l d n.bytes b.1 (right b.0 b.1 b.2 p) b.4 (λ y s n. children_again all scope (tree.tree_and t l) d y s n k.2) in
       let text = children_text (names_of all) scope (meanings all scope (tree.tree_and t l)) in
       so_again (ap (λ z. word (codes "<") ++ (word z ++ (attrs_text (names_of all) scope (meaning_props all scope a) ++ (word (codes ">") ++ (text ++ (word (codes "</") ++ (word z ++ word (codes ">")))))))) (sym (tag_named all n.bytes (given_tag (tag_of all n.bytes)) k.0)))
-        (with_children n a (tree.tree_and t l) d _ text (named_again plain_of n h) h attrs children)
+      (with_children n a (tree.tree_and t l) d _ text (named_again plain_of n h) h attrs children)
 
   each_again : (all : List Declaration) (scope : List (List ℕ)) (l : Trees) (d : ℕ) (x : List Word) → AreSaid x → Listed l d x → MeansEach all scope l (meanings all scope l) → Again (λ k. Listed k d) (λ k. plain_each k ≡ plain_each l) (terms_text (names_of all) scope false (meanings all scope l))
   each_again all scope tree.no_trees d x r m k = made_again (λ k. Listed k d) (λ k. plain_each k ≡ tree.no_trees) nothing_again (λ b. tree.no_trees) (λ b s. refl) (λ b w s y. y)
   each_again all scope (tree.tree_and t l) d x r m k =
       made_again (λ k. Listed k d) (λ k. plain_each k ≡ plain_each (tree.tree_and t l)) (then_again (again all scope t d m.0 (left m.0 m.1 m.2 r) m.3 k.0) (more_again all scope l d m.1 (right m.0 m.1 m.2 r) m.4 k.1))
-        (λ p. tree.tree_and p.0 p.1) (λ p s. ap₂ tree.tree_and s.0 s.1) (λ p w s y. y)
+      (λ p. tree.tree_and p.0 p.1) (λ p s. ap₂ tree.tree_and s.0 s.1) (λ p w s y. y)
 
   more_again : (all : List Declaration) (scope : List (List ℕ)) (l : Trees) (d : ℕ) (x : List Word) → AreSaid x → MoreListed l d x → MeansEach all scope l (meanings all scope l) → Again (λ k. MoreListed k d) (λ k. plain_each k ≡ plain_each l) (terms_text (names_of all) scope true (meanings all scope l))
   more_again all scope tree.no_trees d x r m k = made_again (λ k. MoreListed k d) (λ k. plain_each k ≡ tree.no_trees) nothing_again (λ b. tree.no_trees) (λ b s. refl) (λ b w s y. y)
@@ -278,8 +277,8 @@ mutual
       let q = left m.0 m.1 m.2 r in
       so_again (grouped (word (codes ",")) (term_text (names_of all) scope (meaning all scope t)) (terms_text (names_of all) scope true (meanings all scope l)))
       (made_again (λ k. MoreListed k d) (λ k. plain_each k ≡ plain_each (tree.tree_and t l))
-        (then_again (sign_before Comma (again all scope t d a.1 (right a.0 a.1 a.2 q) a.4 k.0)) (more_again all scope l d m.1 (right m.0 m.1 m.2 r) m.4 k.1))
-        (λ p. tree.tree_and p.0 p.1) (λ p s. ap₂ tree.tree_and s.0 s.1) (λ p w s y. y))
+      (then_again (sign_before Comma (again all scope t d a.1 (right a.0 a.1 a.2 q) a.4 k.0)) (more_again all scope l d m.1 (right m.0 m.1 m.2 r) m.4 k.1))
+      (λ p. tree.tree_and p.0 p.1) (λ p s. ap₂ tree.tree_and s.0 s.1) (λ p w s y. y))
 
   props_again : (all : List Declaration) (scope : List (List ℕ)) (l : TreeProps) (d : ℕ) (x : List Word) → AreSaid x → Properties l d x → MeansProps all scope l (meaning_props all scope l)
       → Again (λ k. Properties k d) (λ k. plain_props k ≡ plain_props l) (props_text (names_of all) scope false (meaning_props all scope l))
@@ -289,8 +288,8 @@ mutual
       let q = right m.3.0 m.3.1 m.3.2 (left m.0 m.1 m.2 r) in
       so_again (grouped_three (printed.literal n.bytes) (word (codes ":")) (term_text (names_of all) scope (meaning all scope t)) (props_text (names_of all) scope true (meaning_props all scope l)))
       (made_again (λ k. Properties k d) (λ k. plain_props k ≡ plain_props (tree.prop_and n t l))
-        (then_again (then_again (property_again n) (sign_before Colon (again all scope t d a.1 (right a.0 a.1 a.2 q) a.4 k.1))) (more_props_again all scope l d m.1 (right m.0 m.1 m.2 r) m.4 k.2))
-        (λ p. tree.prop_and p.0.0 p.0.1 p.1) (λ p s. three tree.prop_and s.0.0 s.0.1 s.1) (λ p w s y. y))
+      (then_again (then_again (property_again n) (sign_before Colon (again all scope t d a.1 (right a.0 a.1 a.2 q) a.4 k.1))) (more_props_again all scope l d m.1 (right m.0 m.1 m.2 r) m.4 k.2))
+      (λ p. tree.prop_and p.0.0 p.0.1 p.1) (λ p s. three tree.prop_and s.0.0 s.0.1 s.1) (λ p w s y. y))
 
   more_props_again : (all : List Declaration) (scope : List (List ℕ)) (l : TreeProps) (d : ℕ) (x : List Word) → AreSaid x → MoreProperties l d x → MeansProps all scope l (meaning_props all scope l)
       → Again (λ k. MoreProperties k d) (λ k. plain_props k ≡ plain_props l) (props_text (names_of all) scope true (meaning_props all scope l))
@@ -302,8 +301,8 @@ mutual
       let q = right c.0 c.1 c.2 p in
       so_again (grouped_four (word (codes ",")) (printed.literal n.bytes) (word (codes ":")) (term_text (names_of all) scope (meaning all scope t)) (props_text (names_of all) scope true (meaning_props all scope l)))
       (made_again (λ k. MoreProperties k d) (λ k. plain_props k ≡ plain_props (tree.prop_and n t l))
-        (then_again (sign_before Comma (then_again (property_again n) (sign_before Colon (again all scope t d a.1 (right a.0 a.1 a.2 q) a.4 k.1)))) (more_props_again all scope l d m.1 (right m.0 m.1 m.2 r) m.4 k.2))
-        (λ p. tree.prop_and p.0.0 p.0.1 p.1) (λ p s. three tree.prop_and s.0.0 s.0.1 s.1) (λ p w s y. y))
+      (then_again (sign_before Comma (then_again (property_again n) (sign_before Colon (again all scope t d a.1 (right a.0 a.1 a.2 q) a.4 k.1)))) (more_props_again all scope l d m.1 (right m.0 m.1 m.2 r) m.4 k.2))
+      (λ p. tree.prop_and p.0.0 p.0.1 p.1) (λ p s. three tree.prop_and s.0.0 s.0.1 s.1) (λ p w s y. y))
 
   pairs_again : (all : List Declaration) (scope : List (List ℕ)) (l : TreePairs) (d : ℕ) (x : List Word) → AreSaid x → Entries l d x → MeansPairs all scope l (meaning_pairs all scope l)
       → Again (λ k. Entries k d) (λ k. plain_pairs k ≡ plain_pairs l) (pairs_text (names_of all) scope false (meaning_pairs all scope l))
@@ -315,9 +314,9 @@ mutual
       let p = right a.4.0 a.4.1 a.4.2 (right a.0 a.1 a.2 q) in
       so_again (grouped_five (word (codes "[")) (term_text (names_of all) scope (meaning all scope e)) (word (codes ",")) (term_text (names_of all) scope (meaning all scope t)) (word (codes "]")) (pairs_text (names_of all) scope true (meaning_pairs all scope l)))
       (made_again (λ k. Entries k d) (λ k. plain_pairs k ≡ plain_pairs (tree.pair_and e t l))
-        (then_again (sign_before OpenBracket (then_again (again all scope e d a.0 (left a.0 a.1 a.2 q) a.3 k.0) (sign_before Comma (sign_behind CloseBracket (again all scope t d b.0 (left b.0 b.1 b.2 p) b.3 k.1)))))
-          (more_pairs_again all scope l d m.1 (right m.0 m.1 m.2 r) m.4 k.2))
-        (λ p. tree.pair_and p.0.0 p.0.1 p.1) (λ p s. three tree.pair_and s.0.0 s.0.1 s.1) (λ p w s y. y))
+      (then_again (sign_before OpenBracket (then_again (again all scope e d a.0 (left a.0 a.1 a.2 q) a.3 k.0) (sign_before Comma (sign_behind CloseBracket (again all scope t d b.0 (left b.0 b.1 b.2 p) b.3 k.1)))))
+      (more_pairs_again all scope l d m.1 (right m.0 m.1 m.2 r) m.4 k.2))
+      (λ p. tree.pair_and p.0.0 p.0.1 p.1) (λ p s. three tree.pair_and s.0.0 s.0.1 s.1) (λ p w s y. y))
 
   more_pairs_again : (all : List Declaration) (scope : List (List ℕ)) (l : TreePairs) (d : ℕ) (x : List Word) → AreSaid x → MoreEntries l d x → MeansPairs all scope l (meaning_pairs all scope l)
       → Again (λ k. MoreEntries k d) (λ k. plain_pairs k ≡ plain_pairs l) (pairs_text (names_of all) scope true (meaning_pairs all scope l))
@@ -329,9 +328,9 @@ mutual
       let p = right a.4.0 a.4.1 a.4.2 (right a.0 a.1 a.2 q) in
       so_again (grouped_six (word (codes ",")) (word (codes "[")) (term_text (names_of all) scope (meaning all scope e)) (word (codes ",")) (term_text (names_of all) scope (meaning all scope t)) (word (codes "]")) (pairs_text (names_of all) scope true (meaning_pairs all scope l)))
       (made_again (λ k. MoreEntries k d) (λ k. plain_pairs k ≡ plain_pairs (tree.pair_and e t l))
-        (then_again (sign_before Comma (sign_before OpenBracket (then_again (again all scope e d a.0 (left a.0 a.1 a.2 q) a.3 k.0) (sign_before Comma (sign_behind CloseBracket (again all scope t d b.0 (left b.0 b.1 b.2 p) b.3 k.1))))))
-          (more_pairs_again all scope l d m.1 (right m.0 m.1 m.2 r) m.4 k.2))
-        (λ p. tree.pair_and p.0.0 p.0.1 p.1) (λ p s. three tree.pair_and s.0.0 s.0.1 s.1) (λ p w s y. y))
+      (then_again (sign_before Comma (sign_before OpenBracket (then_again (again all scope e d a.0 (left a.0 a.1 a.2 q) a.3 k.0) (sign_before Comma (sign_behind CloseBracket (again all scope t d b.0 (left b.0 b.1 b.2 p) b.3 k.1))))))
+      (more_pairs_again all scope l d m.1 (right m.0 m.1 m.2 r) m.4 k.2))
+      (λ p. tree.pair_and p.0.0 p.0.1 p.1) (λ p s. three tree.pair_and s.0.0 s.0.1 s.1) (λ p w s y. y))
 
   attrs_again : (all : List Declaration) (scope : List (List ℕ)) (l : TreeProps) (d : ℕ) (x : List Word) → AreSaid x → Attributes l d x → MeansProps all scope l (meaning_props all scope l)
       → Again (λ k. Attributes k d) (λ k. plain_props k ≡ plain_props l) (attrs_text (names_of all) scope (meaning_props all scope l))
@@ -344,13 +343,13 @@ mutual
       let text = given_text (shape all scope t) (term_text (names_of all) scope (meaning all scope t)) in
       so_again (append_assoc (n.bytes ++ word (codes "=")) text _ ∙ (append_assoc n.bytes (word (codes "=")) (text ++ attrs_text (names_of all) scope (meaning_props all scope l))))
       (made_again (λ k. Attributes k d) (λ k. plain_props k ≡ plain_props (tree.prop_and n t l))
-        (then_again (then_again (attribute_again n c.0 (left c.0 c.1 c.2 q) c.3) value) (attrs_again all scope l d m.1 (right m.0 m.1 m.2 r) m.4 k.2))
-        (λ p. tree.prop_and p.0.0 p.0.1 p.1) (λ p s. three tree.prop_and s.0.0 s.0.1 s.1) (λ p w s y. (y.0, y.1, y.2, regrouped y.0 y.3, y.4)))
+      (then_again (then_again (attribute_again n c.0 (left c.0 c.1 c.2 q) c.3) value) (attrs_again all scope l d m.1 (right m.0 m.1 m.2 r) m.4 k.2))
+      (λ p. tree.prop_and p.0.0 p.0.1 p.1) (λ p s. three tree.prop_and s.0.0 s.0.1 s.1) (λ p w s y. (y.0, y.1, y.2, regrouped y.0 y.3, y.4)))
 
   children_again : (all : List Declaration) (scope : List (List ℕ)) (l : Trees) (d : ℕ) (x : List Word) → AreSaid x → Children l d x → MeansEach all scope l (meanings all scope l)
       → Again (λ k. Children k d) (λ k. plain_each k ≡ plain_each l) (children_text (names_of all) scope (meanings all scope l))
   children_again all scope tree.no_trees d x r m k = made_again (λ k. Children k d) (λ k. plain_each k ≡ tree.no_trees) nothing_again (λ b. tree.no_trees) (λ b s. refl) (λ b w s y. y)
   children_again all scope (tree.tree_and t l) d x r m k =
       made_again (λ k. Children k d) (λ k. plain_each k ≡ plain_each (tree.tree_and t l))
-        (then_again (child_again all scope t d m.0 (left m.0 m.1 m.2 r) m.3 k.0 (λ y s n. again all scope t d y s n k.0)) (children_again all scope l d m.1 (right m.0 m.1 m.2 r) m.4 k.1))
-        (λ p. tree.tree_and p.0 p.1) (λ p s. ap₂ tree.tree_and s.0 s.1) (λ p w s y. y)
+      (then_again (child_again all scope t d m.0 (left m.0 m.1 m.2 r) m.3 k.0 (λ y s n. again all scope t d y s n k.0)) (children_again all scope l d m.1 (right m.0 m.1 m.2 r) m.4 k.1))
+      (λ p. tree.tree_and p.0 p.1) (λ p s. ap₂ tree.tree_and s.0 s.1) (λ p w s y. y)

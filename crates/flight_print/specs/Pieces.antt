@@ -1,5 +1,5 @@
 -- Printed tokens: what each is, and that none runs into the next.
-use Rattle.std.specs.Prelude.{ℕ, ◌+◌, ◌≡◌, Bool, true, false, List, [], ◌∷◌, ◌++◌, length}
+use Rattle.std.specs.Prelude.{ℕ, ◌+◌, ◌≡◌, true, false, List, [], ◌∷◌, ◌++◌, length}
 use Rattle.flight_syntax.specs.declared.token.Token.{Token}
 use Rattle.flight_syntax.specs.declared.token.TokenKind.{TokenKind}
 use Rattle.flight_syntax.specs.declared.token.TokenKind.TheVariants.{Name, Number, Big, Text, Mark}

@@ -36,9 +36,5 @@ pub fn write_number<I: Integer>(out: &mut String, number: I, end: &str) -> Resul
 pub fn write_comma(out: &mut String, later: bool) -> Result<(), Memory>
     ensures { OnOk result (string_bytes out.new ≡ string_bytes out.old ++ comma_if later) }
 {
-    if later {
-        write_word(out, ",")
-    } else {
-        Ok(())
-    }
+    if later { write_word(out, ",") } else { Ok(()) }
 }

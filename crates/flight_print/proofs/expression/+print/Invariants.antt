@@ -1,4 +1,4 @@
-use Rattle.std.proofs.Common.{◌≡◌, ◌++◌, List, [], map, drop, false, nat_lt, string_bytes}
+use Rattle.std.proofs.Common.{◌≡◌, ◌++◌, map, drop, false, nat_lt, string_bytes}
 use Rattle.flight_syntax.specs.Term.{term, prop, pair, post, terms_of, props_of, pairs_of}
 use Rattle.flight_print.specs.Text.{terms_text, props_text, pairs_text, attrs_text, children_text}
 use Rattle.flight_print.specs.Scope.{declared_names, scope_of, posts_text}
