@@ -1,0 +1,40 @@
+ghost use Rattle.std.specs.Prelude.{◌≡◌, ◌++◌, OnOk, string_bytes};
+ghost use Rattle.std.specs.Fmt.{signed_decimal};
+ghost use Rattle.flight_print.specs.Text.{word, literal, comma_if};
+
+use flight_graph::write_string;
+use flight_value::{Memory, Text};
+use itoa::{Buffer, Integer};
+
+/// Appends a word, and a space.
+pub fn write_word(out: &mut String, text: &str) -> Result<(), Memory>
+    ensures { OnOk result (string_bytes out.new ≡ string_bytes out.old ++ word text.now) }
+{
+    out.push_str(text)?;
+    out.push_str(" ")?;
+    Ok(())
+}
+
+/// Appends a text as a literal.
+pub fn write_literal(out: &mut String, text: &Text) -> Result<(), Memory>
+    ensures { OnOk result (string_bytes out.new ≡ string_bytes out.old ++ literal text.now) }
+{
+    write_string(out, text.as_str())?;
+    out.push_str(" ")?;
+    Ok(())
+}
+
+/// Appends a whole number, what is its end, and a space.
+pub fn write_number<I: Integer>(out: &mut String, number: I, end: &str) -> Result<(), Memory>
+    ensures { OnOk result (string_bytes out.new ≡ string_bytes out.old ++ word (I.text number ++ end.now)) }
+{
+    out.push_str(Buffer::new().format(number))?;
+    write_word(out, end)
+}
+
+/// Appends a comma, where something stands before.
+pub fn write_comma(out: &mut String, later: bool) -> Result<(), Memory>
+    ensures { OnOk result (string_bytes out.new ≡ string_bytes out.old ++ comma_if later) }
+{
+    if later { write_word(out, ",") } else { Ok(()) }
+}
