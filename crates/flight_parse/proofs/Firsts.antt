@@ -9,6 +9,9 @@ use Rattle.flight_parse.specs.declared.name_fault.NameFault.{NameFault}
 use Rattle.flight_parse.specs.Names.{fault_of, IsFirst, inside_out}
 use Rattle.flight_parse.proofs.Scopes.{inside_one}
 use Rattle.flight_parse.specs.Seen.{going}
+use Rattle.flight_syntax.specs.Tree.{Tree, Declaration, member, index}
+use Rattle.flight_tree.specs.Code.{PlainPost, named, indexed, posted}
+use Rattle.flight_parse.specs.Posts.{faults_posts}
 
 -- a fault, or none, as a list
 abbrev listed : Option faults.NameFault → List faults.NameFault
@@ -103,3 +106,14 @@ repeated_steps P xs i x l is found new fault total inv f e =
     ap (λ b. going new (faults.repeated b (map P (drop (i + 1) xs)))) (one_before P xs i x l is)
     ∙ goes_on found new fault (if faults.is_named (P x).bytes (before P xs i) then faults.twice (P x) ∷ [] else []) (faults.repeated (P x ∷ before P xs i) (map P (drop (i + 1) xs))) total
     (ap (λ z. going found (faults.repeated (before P xs i) (map P z))) (sym (more xs i x l is)) ∙ inv) f e
+
+-- ---- an expression with its postfixes
+
+append_none : {A : Type 0} (xs : List A) → xs ≡ xs ++ []
+append_none [] = refl
+append_none (x ∷ xs) = ap (λ us. x ∷ us) (append_none xs)
+
+pub posted_faults : (all : List Declaration) (scope : List Placed) (t : Tree) (ps : List PlainPost) → faults.faults all scope (posted t ps) ≡ faults.faults all scope t ++ faults_posts all scope ps
+posted_faults all scope t [] = append_none (faults.faults all scope t)
+posted_faults all scope t (named n ∷ ps) = posted_faults all scope (member t n) ps
+posted_faults all scope t (indexed a ∷ ps) = posted_faults all scope (index t a) ps ∙ append_assoc (faults.faults all scope t) (faults.faults all scope a) (faults_posts all scope ps)

@@ -8,7 +8,8 @@ use Rattle.flight_syntax.specs.Term.{Term}
 use Rattle.flight_syntax.specs.Meaning.{meaning, meanings, meaning_props, meaning_pairs}
 use Rattle.flight_syntax.specs.Faults.{beside_children, children_attributes}
 use Rattle.flight_tree.specs.declared.tree.Tree.{Tree}
-use Rattle.flight_tree.specs.Code.{tree_of}
+use Rattle.flight_tree.specs.Code.{tree_of, PlainPost, named, indexed, posted}
+use Rattle.flight_parse.specs.Posts.{meaning_post}
 use Rattle.flight_parse.proofs.Firsts.{taken, map_last}
 
 terms_last : (all : List Declaration) (scope : List (List ℕ)) (es : List Term) (ts : List tree.Tree) (e : Term) (t : tree.Tree) → terms.terms_of es ≡ meanings all scope (tree.trees_of ts) → e ≡ meaning all scope t
@@ -65,6 +66,21 @@ module _ (all : List Declaration) (scope : List (List ℕ)) {A E : Type 0} (xs :
   pairs_steps f g inv n q =
       ap terms.pairs_of (ap (map f) push ∙ map_last f old e)
       ∙ (pairs_last all scope (map f old) (map g (take i xs)) (f e) (g x) inv n q ∙ ap (λ z. meaning_pairs all scope (tree.pairs_of z)) (sym (ap (map g) (taken xs i x l is) ∙ map_last g (take i xs) x)))
+
+  pub posts_steps : (f : E → terms.Post) (g : A → PlainPost) → map f old ≡ map (meaning_post all scope) (map g (take i xs)) → f e ≡ meaning_post all scope (g x)
+      → map f new ≡ map (meaning_post all scope) (map g (take (i + 1) xs))
+  posts_steps f g inv q =
+      ap (map f) push
+      ∙ (map_last f old e
+      ∙ (ap (λ z. z ++ f e ∷ []) inv
+      ∙ (ap (λ z. map (meaning_post all scope) (map g (take i xs)) ++ z ∷ []) q
+      ∙ sym (ap (λ z. map (meaning_post all scope) (map g z)) (taken xs i x l is) ∙ (ap (map (meaning_post all scope)) (map_last g (take i xs) x) ∙ map_last (meaning_post all scope) (map g (take i xs)) (g x))))))
+
+-- an expression with its postfixes
+pub posted_meaning : (all : List Declaration) (scope : List (List ℕ)) (t : tree.Tree) (ps : List PlainPost) → meaning all scope (posted t ps) ≡ terms.posted (meaning all scope t) (map (meaning_post all scope) ps)
+posted_meaning all scope t [] = refl
+posted_meaning all scope t (named n ∷ ps) = posted_meaning all scope (tree.member t n) ps
+posted_meaning all scope t (indexed a ∷ ps) = posted_meaning all scope (tree.index t a) ps
 
 -- where there are children
 pub some_children : (children : List Tree) (names : List Placed) → 0 < length children → beside_children (tree.trees_of (map tree_of children)) names ≡ children_attributes names

@@ -2,3 +2,4 @@ pub mod Names
 pub mod Seen
 pub mod Kept
 pub mod Reports
+pub mod Posts

@@ -1,5 +1,5 @@
 ghost use Rattle.std.specs.Prelude.{◌≡◌, ℕ, List, IfOk, map};
-ghost use Rattle.flight_syntax.specs.Term.{term, prop};
+ghost use Rattle.flight_syntax.specs.Term.{term, prop, post};
 ghost use Rattle.flight_syntax.specs.Term as terms;
 ghost use Rattle.flight_syntax.specs.Scope.{client_number, action_number, tag_of};
 ghost use Rattle.flight_syntax.specs.Meaning.{innermost, given, given_tag, meaning, meanings};
@@ -9,7 +9,7 @@ ghost use Rattle.flight_parse.specs.Names.{IsKnown, all_of, names_of};
 
 use crate::body::{Body, variable};
 use crate::tables::find;
-use flight_syntax::{Expr, Op, PropExpr, Tag, is_lower};
+use flight_syntax::{Expr, Op, Postfix, PropExpr, Tag, is_lower};
 use flight_tree::Name;
 use flight_value::{Atom, Memory};
 use sqlite_items::{Boxed, Items};
@@ -52,22 +52,12 @@ pub fn throw(alloc: Global, value: Expr) -> Result<Expr, Memory>
     Ok(Expr::Throw(Boxed::new(alloc, value)?))
 }
 
-/// `of.name`.
-pub fn member(alloc: Global, of: Expr, name: &Name) -> Result<Expr, Memory>
-    ensures { IfOk result (λ e. term e ≡ terms.member (term of) name.now.bytes) }
-{
-    let name = name.bytes.clone()?;
-    let of = Boxed::new(alloc, of)?;
-    Ok(Expr::Member { of, name })
-}
-
-/// `of[at]`.
-pub fn index(alloc: Global, of: Expr, at: Expr) -> Result<Expr, Memory>
-    ensures { IfOk result (λ e. term e ≡ terms.index (term of) (term at)) }
+/// An expression with its postfixes.
+pub fn postfixed(alloc: Global, of: Expr, postfixes: Items<Postfix>) -> Result<Expr, Memory>
+    ensures { IfOk result (λ e. term e ≡ terms.posted (term of) (map post postfixes)) }
 {
     let of = Boxed::new(alloc, of)?;
-    let at = Boxed::new(alloc, at)?;
-    Ok(Expr::Index { of, at })
+    Ok(Expr::Postfixed { of, postfixes })
 }
 
 /// A literal.

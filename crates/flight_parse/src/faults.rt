@@ -2,8 +2,9 @@ ghost use Rattle.std.specs.Prelude.{IfOk, ◌++◌, ◌∷◌, [], map};
 ghost use Rattle.flight_syntax.specs.Faults as faults;
 ghost use Rattle.flight_syntax.specs.Tree as tree;
 ghost use Rattle.flight_syntax.specs.Tree.{trees_of, props_of, pairs_of};
-ghost use Rattle.flight_tree.specs.Code.{placed, tree_of, property_of, entry_of};
+ghost use Rattle.flight_tree.specs.Code.{placed, tree_of, property_of, entry_of, post_of, posted};
 ghost use Rattle.flight_parse.specs.Names.{IsKnown, IsFirst, all_of, scope_of};
+ghost use Rattle.flight_parse.specs.Posts.{faults_post, faults_posts};
 
 use crate::body::{Body, with_local};
 use crate::element_fault::own_fault;
@@ -11,7 +12,7 @@ use crate::known::{unknown_action, unknown_client, unknown_variable};
 use crate::name_fault::{NameFault, first_of};
 use crate::property_names::property_names;
 use crate::repeated::repeated;
-use flight_tree::{Entry, Name, Property, Tree};
+use flight_tree::{Entry, Name, Post, Property, Tree};
 use flight_value::Memory;
 use std::alloc::Global;
 
@@ -52,8 +53,13 @@ pub fn in_tree<'a>(
             give.get(),
         ),
         Tree::Throw(value) => in_tree(alloc, body, locals, value.get()),
-        Tree::Member { of, .. } => in_tree(alloc, body, locals, of.get()),
-        Tree::Index { of, at } => in_two(alloc, body, locals, of.get(), at.get()),
+        Tree::Postfixed { of, posts } => in_postfixed(
+            alloc,
+            body,
+            locals,
+            of.get(),
+            posts.as_slice(),
+        ),
         Tree::Atom(_) | Tree::Source(_) | Tree::Promise(_) | Tree::Stream(_) => Ok(None),
         Tree::Variable(name) => unknown_variable(body, locals, name),
         Tree::Client(name) => unknown_client(body, name),
@@ -135,6 +141,59 @@ fn in_three<'a>(
     let first = in_tree(alloc, body, locals, one)?;
     let others = in_two(alloc, body, locals, two, three)?;
     Ok(first_of(first, others))
+}
+
+/// In an expression and its postfixes.
+#[cycle(faults)]
+fn in_postfixed<'a>(
+    alloc: Global,
+    body: &Body<'_>,
+    locals: &[&'a Name],
+    of: &'a Tree,
+    posts: &'a [Post],
+) -> Result<Option<NameFault>, Memory>
+    requires { IsKnown body.now }
+    ensures { IfOk result (λ fault. IsFirst fault (faults.faults (all_of body.now) (scope_of body.now locals.now) (posted (tree_of of.now) (map post_of posts.now)))) }
+{
+    let first = in_tree(alloc, body, locals, of)?;
+    let others = in_posts(alloc, body, locals, posts)?;
+    Ok(first_of(first, others))
+}
+
+/// In postfixes.
+#[cycle(faults)]
+fn in_posts<'a>(
+    alloc: Global,
+    body: &Body<'_>,
+    locals: &[&'a Name],
+    posts: &'a [Post],
+) -> Result<Option<NameFault>, Memory>
+    requires { IsKnown body.now }
+    ensures { IfOk result (λ fault. IsFirst fault (faults_posts (all_of body.now) (scope_of body.now locals.now) (map post_of posts.now))) }
+{
+    let mut first = None;
+    for post in posts {
+        let fault = in_post(alloc, body, locals, post)?;
+        first = first_of(first, fault);
+    }
+    Ok(first)
+}
+
+/// In a postfix.
+#[cycle(faults)]
+fn in_post<'a>(
+    alloc: Global,
+    body: &Body<'_>,
+    locals: &[&'a Name],
+    post: &'a Post,
+) -> Result<Option<NameFault>, Memory>
+    requires { IsKnown body.now }
+    ensures { IfOk result (λ fault. IsFirst fault (faults_post (all_of body.now) (scope_of body.now locals.now) (post_of post.now))) }
+{
+    match post {
+        Post::Named(_) => Ok(None),
+        Post::Indexed(at) => in_tree(alloc, body, locals, at),
+    }
 }
 
 /// In an action and its arguments.

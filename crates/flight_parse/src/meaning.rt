@@ -3,16 +3,17 @@ ghost use Rattle.flight_syntax.specs.Tree.{trees_of, props_of, pairs_of};
 ghost use Rattle.flight_syntax.specs.Term.{term, prop, pair};
 ghost use Rattle.flight_syntax.specs.Term as terms;
 ghost use Rattle.flight_syntax.specs.Meaning.{meaning, meanings, meaning_props, meaning_pairs};
-ghost use Rattle.flight_tree.specs.Code.{placed, tree_of, property_of, entry_of};
+ghost use Rattle.flight_tree.specs.Code.{placed, tree_of, property_of, entry_of, post_of, posted};
 ghost use Rattle.flight_parse.specs.Names.{IsKnown, all_of, names_of};
+ghost use Rattle.flight_parse.specs.Posts.{meaning_post};
 
 use crate::body::{Body, with_local};
 use crate::build::{
-    action, action_with, atom, binary, client, element, for_in, if_else, index, let_in, member,
-    paren, throw, variable_of,
+    action, action_with, atom, binary, client, element, for_in, if_else, let_in, paren, postfixed,
+    throw, variable_of,
 };
-use flight_syntax::{Expr, PairExpr, PropExpr};
-use flight_tree::{Entry, Name, Property, Tree};
+use flight_syntax::{Expr, PairExpr, Postfix, PropExpr};
+use flight_tree::{Entry, Name, Post, Property, Tree};
 use flight_value::Memory;
 use sqlite_items::Items;
 use std::alloc::Global;
@@ -43,10 +44,8 @@ pub fn expr_of<'a>(
             for_in(alloc, name, over, give)
         }
         Tree::Throw(value) => throw(alloc, expr_of(alloc, body, locals, value.get())?),
-        Tree::Member { of, name } => member(alloc, expr_of(alloc, body, locals, of.get())?, name),
-        Tree::Index { of, at } => {
-            let (of, at) = two_of(alloc, body, locals, of.get(), at.get())?;
-            index(alloc, of, at)
+        Tree::Postfixed { of, posts } => {
+            postfixed_of(alloc, body, locals, of.get(), posts.as_slice())
         }
         Tree::Atom(value) => atom(value),
         Tree::Variable(name) => variable_of(body, locals, name),
@@ -140,6 +139,59 @@ fn exprs_of<'a>(
         out.push(expr)?;
     }
     Ok(out)
+}
+
+/// An expression with its postfixes.
+#[cycle(meaning)]
+fn postfixed_of<'a>(
+    alloc: Global,
+    body: &Body<'_>,
+    locals: &[&'a Name],
+    of: &'a Tree,
+    posts: &'a [Post],
+) -> Result<Expr, Memory>
+    requires { IsKnown body.now }
+    ensures { IfOk result (λ e. term e ≡ meaning (all_of body.now) (names_of body.now locals.now) (posted (tree_of of.now) (map post_of posts.now))) }
+{
+    let of = expr_of(alloc, body, locals, of)?;
+    let postfixes = postfixes_of(alloc, body, locals, posts)?;
+    postfixed(alloc, of, postfixes)
+}
+
+/// Postfixes.
+#[cycle(meaning)]
+fn postfixes_of<'a>(
+    alloc: Global,
+    body: &Body<'_>,
+    locals: &[&'a Name],
+    posts: &'a [Post],
+) -> Result<Items<Postfix>, Memory>
+    requires { IsKnown body.now }
+    ensures { IfOk result (λ out. map terms.post out ≡ map (meaning_post (all_of body.now) (names_of body.now locals.now)) (map post_of posts.now)) }
+{
+    let mut out = Items::new(alloc);
+    for post in posts {
+        let postfix = postfix_of(alloc, body, locals, post)?;
+        out.push(postfix)?;
+    }
+    Ok(out)
+}
+
+/// A postfix.
+#[cycle(meaning)]
+fn postfix_of<'a>(
+    alloc: Global,
+    body: &Body<'_>,
+    locals: &[&'a Name],
+    post: &'a Post,
+) -> Result<Postfix, Memory>
+    requires { IsKnown body.now }
+    ensures { IfOk result (λ p. terms.post p ≡ meaning_post (all_of body.now) (names_of body.now locals.now) (post_of post.now)) }
+{
+    match post {
+        Post::Named(name) => Ok(Postfix::Member(name.bytes.clone()?)),
+        Post::Indexed(at) => Ok(Postfix::Index(expr_of(alloc, body, locals, at)?)),
+    }
 }
 
 /// Properties.

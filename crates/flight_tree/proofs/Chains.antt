@@ -1,9 +1,10 @@
 -- An atom with its postfixes, as a loop reads them.
-use Rattle.std.proofs.Common.{◌≡◌, ℕ, zero, suc, ◌-◌, ◌+◌, ◌≤◌, ◌<◌, true, false, List, [], ◌∷◌, Result, Ok, Err, length, refl, sym, ap, subst, ◌∙◌, arith}
+use Rattle.std.proofs.Common.{◌≡◌, ℕ, zero, suc, ◌-◌, ◌+◌, ◌≤◌, ◌<◌, true, false, List, [], ◌∷◌, ◌++◌, map, Ok, Err, length, append_assoc, append-nil, refl, sym, ap, subst, ◌∙◌, arith}
+use Rattle.std.proofs.lemmas.List.{map-append}
 use Rattle.flight_syntax.specs.declared.word.Punctuator.TheVariants as signs
 use Rattle.flight_syntax.specs.Lexicon.{Word}
 use Rattle.flight_syntax.specs.Lexicon as lexicon
-use Rattle.flight_syntax.specs.Tree.{Tree}
+use Rattle.flight_syntax.specs.Tree.{Tree, member, index}
 use Rattle.flight_grammar.specs.Reading.{Read, Reader, Arm, stop, limit, go, ◌>>=◌, want, at, next_is, made, closed, by_arm, by_word, consed, paired}
 use Rattle.flight_grammar.specs.Reader as reader
 use Rattle.flight_grammar.specs.Reader.{Post, posted, chain_arm, atom_arm, chain_of, named_and, indexed_and, starts_post, level, json_value}
@@ -11,13 +12,17 @@ use Rattle.flight_tree.specs.declared.lexeme.Lexeme.{Lexeme}
 use Rattle.flight_tree.specs.declared.lexeme.Lexeme.TheVariants as code
 use Rattle.flight_tree.specs.declared.stop.Stop.{Stop}
 use Rattle.flight_tree.specs.declared.stop.Stop.TheVariants as stops
-use Rattle.flight_tree.specs.Code.{Fails, Gives, words, word, postfix}
+use Rattle.flight_tree.specs.Code as plain
+use Rattle.flight_tree.specs.Code.{Fails, words, word, postfix, PlainPost, read_post}
 
 -- ---- postfixes
 
--- what is still read in so many turns, put behind what was read
-abbrev pub left_posts : ℕ → ℕ → Reader Tree → Tree → List Word → Read Tree
-left_posts count i e t ts = made (λ ps. posted t ps) (reader.posts (count - i) e) ts
+-- what was read, and what is still read behind it in so many turns
+abbrev joined : List Post → Read (List Post) → Read (List Post)
+joined xs r = r >>= λ b. Ok (xs ++ b.0, b.1)
+
+abbrev pub left_posts : ℕ → ℕ → Reader Tree → List Post → List Word → Read (List Post)
+left_posts count i e xs ts = joined xs (reader.posts (count - i) e ts)
 
 abbrev next : Post → Read (List Post) → Read (List Post)
 next p r = r >>= λ b. consed p b
@@ -53,24 +58,22 @@ split n e (code.Mark signs.Dot ∷ ls) h = dot_split n e (want lexicon.name_of (
 split n e (code.Mark signs.OpenBracket ∷ ls) h = bracket_split n e (closed e (lexicon.is_mark signs.CloseBracket) (words ls))
 split n e (_ ∷ ls) h = absurd cc
 
--- the postfixes that were read, put on an expression
-abbrev onto : Tree → Read (List Post) → Read Tree
-onto t r = r >>= λ b. Ok (posted t b.0, b.1)
-
-posted_more : (t : Tree) (p : Post) (r : Read (List Post)) → onto t (next p r) ≡ onto (posted t (p ∷ [])) r
-posted_more t (reader.named n) (Ok b) = refl
-posted_more t (reader.indexed a) (Ok b) = refl
-posted_more t reader.over (Ok b) = refl
-posted_more t p (Err f) = refl
+regroup : (xs : List Post) (p : Post) (r : Read (List Post)) → joined (xs ++ p ∷ []) r ≡ joined xs (next p r)
+regroup xs p (Ok b) = ap (λ us. Ok (us, b.1)) (append_assoc xs (p ∷ []) b.0)
+regroup xs p (Err e) = refl
 
 -- before the first turn
-pub begins_posts : (count : ℕ) (e : Reader Tree) (t : Tree) (ts : List Word) → left_posts count 0 e t ts ≡ made (λ ps. posted t ps) (reader.posts count e) ts
-begins_posts count e t ts = let k : count - 0 ≡ count = omega arith in ap (λ n. made (λ ps. posted t ps) (reader.posts n e) ts) k
+pub begins_posts : (count : ℕ) (e : Reader Tree) (ts : List Word) → left_posts count 0 e [] ts ≡ reader.posts count e ts
+begins_posts count e ts = let k : count - 0 ≡ count = omega arith in ap (λ n. joined [] (reader.posts n e ts)) k ∙ of (reader.posts count e ts)
+  where
+    of : (r : Read (List Post)) → joined [] r ≡ r
+    of (Ok b) = refl
+    of (Err f) = refl
 
 -- no postfix starts
-pub ends_posts : (count i : ℕ) (e : Reader Tree) (t : Tree) (ts : List Word) (total : Read Tree)
-    → left_posts count i e t ts ≡ total → next_is starts_post ts ≡ false → total ≡ Ok (t, ts)
-ends_posts count i e t ts total inv h = sym inv ∙ rw (none (count - i) e ts h) refl
+pub ends_posts : (count i : ℕ) (e : Reader Tree) (xs : List Post) (ts : List Word) (total : Read (List Post))
+    → left_posts count i e xs ts ≡ total → next_is starts_post ts ≡ false → total ≡ Ok (xs, ts)
+ends_posts count i e xs ts total inv h = sym inv ∙ (ap (joined xs) (none (count - i) e ts h) ∙ ap (λ us. Ok (us, ts)) (append-nil xs))
 
 last_deep : (e : Reader Tree) (ls : List Lexeme) → next_is starts_post (words ls) ≡ true → reader.posts zero e (words ls) ≡ Err (record { too_deep = true; left = length (words ls) })
 last_deep e [] h = absurd cc
@@ -79,40 +82,58 @@ last_deep e (code.Mark signs.OpenBracket ∷ ls) h = refl
 last_deep e (_ ∷ ls) h = absurd cc
 
 -- one starts, and no turn is left
-pub too_many_posts : (s : Stop) (count i : ℕ) (e : Reader Tree) (t : Tree) (ls : List Lexeme) (total : Read Tree)
-    → left_posts count i e t (words ls) ≡ total → count ≤ i → next_is starts_post (words ls) ≡ true → s ≡ stops.Fault true (length (words ls)) → Fails s total
-too_many_posts s count i e t ls total inv lt h is =
+pub too_many_posts : (s : Stop) (count i : ℕ) (e : Reader Tree) (xs : List Post) (ls : List Lexeme) (total : Read (List Post))
+    → left_posts count i e xs (words ls) ≡ total → count ≤ i → next_is starts_post (words ls) ≡ true → s ≡ stops.Fault true (length (words ls)) → Fails s total
+too_many_posts s count i e xs ls total inv lt h is =
     let z : count - i ≡ zero = omega arith in
-    subst (λ x. Fails x total) (sym is) (sym inv ∙ (ap (λ n. made (λ ps. posted t ps) (reader.posts n e) (words ls)) z ∙ rw (last_deep e ls h) refl))
+    subst (λ x. Fails x total) (sym is) (sym inv ∙ (ap (λ n. joined xs (reader.posts n e (words ls))) z ∙ ap (joined xs) (last_deep e ls h)))
+
+pushed : {X : Type 0} (f : X → PlainPost) (old new : List X) (p : X) → new ≡ old ++ p ∷ [] → map read_post (map f new) ≡ map read_post (map f old) ++ read_post (f p) ∷ []
+pushed f old new p is =
+    ap (λ xs. map read_post (map f xs)) is ∙ (ap (map read_post) (map-append f old (p ∷ [])) ∙ map-append read_post (map f old) (f p ∷ []))
 
 -- one more was read
-pub more_posts : (count i : ℕ) (e : Reader Tree) (t u : Tree) (p : Post) (ls : List Lexeme) (after : List Word) (total : Read Tree)
-    → left_posts count i e t (words ls) ≡ total → i < count → next_is starts_post (words ls) ≡ true → postfix e (words ls) ≡ Ok (p, after) → u ≡ posted t (p ∷ [])
-    → left_posts count (i + 1) e u after ≡ total
-more_posts count i e t u p ls after total inv lt h f is =
+pub more_posts : {X : Type 0} (f : X → PlainPost) (count i : ℕ) (e : Reader Tree) (old new : List X) (p : X) (ls : List Lexeme) (after : List Word) (total : Read (List Post))
+    → left_posts count i e (map read_post (map f old)) (words ls) ≡ total → i < count → next_is starts_post (words ls) ≡ true → postfix e (words ls) ≡ Ok (read_post (f p), after) → new ≡ old ++ p ∷ []
+    → left_posts count (i + 1) e (map read_post (map f new)) after ≡ total
+more_posts f count i e old new p ls after total inv lt h is push =
     let k : count - i ≡ suc (count - (i + 1)) = omega arith in
     let m = count - (i + 1) in
-    ap (λ x. left_posts count (i + 1) e x after) is
-    ∙ (sym (posted_more t p (reader.posts m e after))
-    ∙ (ap (λ r. onto t (then_posts m e r)) (sym f)
-    ∙ (ap (onto t) (sym (split m e ls h))
-    ∙ (ap (λ n. made (λ ps. posted t ps) (reader.posts n e) (words ls)) (sym k) ∙ inv))))
+    let xs = map read_post (map f old) in
+    ap (λ ys. joined ys (reader.posts m e after)) (pushed f old new p push)
+    ∙ (regroup xs (read_post (f p)) (reader.posts m e after)
+    ∙ (ap (λ r. joined xs (then_posts m e r)) (sym is)
+    ∙ (ap (joined xs) (sym (split m e ls h))
+    ∙ (ap (λ n. joined xs (reader.posts n e (words ls))) (sym k) ∙ inv))))
 
 -- one more fails
-pub fails_posts : (s : Stop) (count i : ℕ) (e : Reader Tree) (t : Tree) (ls : List Lexeme) (total : Read Tree)
-    → left_posts count i e t (words ls) ≡ total → i < count → next_is starts_post (words ls) ≡ true → Fails s (postfix e (words ls)) → Fails s total
-fails_posts stops.Memory count i e t ls total inv lt h f = tt
-fails_posts (stops.Fault deep left) count i e t ls total inv lt h f =
+pub fails_posts : (s : Stop) (count i : ℕ) (e : Reader Tree) (xs : List Post) (ls : List Lexeme) (total : Read (List Post))
+    → left_posts count i e xs (words ls) ≡ total → i < count → next_is starts_post (words ls) ≡ true → Fails s (postfix e (words ls)) → Fails s total
+fails_posts stops.Memory count i e xs ls total inv lt h f = tt
+fails_posts (stops.Fault deep left) count i e xs ls total inv lt h f =
     let k : count - i ≡ suc (count - (i + 1)) = omega arith in
     let m = count - (i + 1) in
-    sym inv ∙ (ap (λ n. made (λ ps. posted t ps) (reader.posts n e) (words ls)) k
-    ∙ (ap (onto t) (split m e ls h)
-    ∙ ap (λ r. onto t (then_posts m e r)) f))
+    sym inv ∙ (ap (λ n. joined xs (reader.posts n e (words ls))) k
+    ∙ (ap (joined xs) (split m e ls h)
+    ∙ ap (λ r. joined xs (then_posts m e r)) f))
 
 -- ---- an atom and its postfixes
 
 abbrev chains : Read (Tree × List Post) → Read Tree
 chains r = r >>= λ b. Ok (chain_of b.0, b.1)
+
+-- the postfixes that were read, put on an expression
+abbrev onto : Tree → Read (List Post) → Read Tree
+onto t r = r >>= λ b. Ok (posted t b.0, b.1)
+
+read_all : (t : Tree) (ps : List PlainPost) → posted t (map read_post ps) ≡ plain.posted t ps
+read_all t [] = refl
+read_all t (plain.named n ∷ ps) = read_all (member t n) ps
+read_all t (plain.indexed a ∷ ps) = read_all (index t a) ps
+
+fails_onto : (s : Stop) (t : Tree) (r : Read (List Post)) → Fails s r → Fails s (onto t r)
+fails_onto stops.Memory t r f = tt
+fails_onto (stops.Fault deep left) t r f = ap (onto t) f
 
 abbrev chained : Reader Tree → Read Tree → Read Tree
 chained e r = r >>= λ a. onto a.0 (reader.posts 100 e a.1)
@@ -145,13 +166,14 @@ arm_fails s e arm w ts f = subst (Fails s) (sym (chain e arm w ts)) (fails_chain
 pub word_fails : (s : Stop) (e c : Reader Tree) (ts : List Word) → Fails s (by_word (atom_arm e c) ts) → Fails s (by_word (λ w. chain_arm e (atom_arm e c w)) ts)
 word_fails s e c ts f = subst (Fails s) (sym (chain_word e c ts)) (fails_chained s e (by_word (atom_arm e c) ts) f)
 
-pub arm_gives : {X : Type 0} (view : X → Tree × List Word) (result : Result X Stop) (e : Reader Tree) (arm : Arm Tree) (w : Word) (ts after : List Word) (a : Tree)
-    → by_arm arm w ts ≡ Ok (a, after) → Gives view result (made (λ ps. posted a ps) (reader.posts 100 e) after) → Gives view result (by_arm (chain_arm e arm) w ts)
-arm_gives view result e arm w ts after a f g = subst (Gives view result) (sym (chain e arm w ts ∙ ap (chained e) f)) g
+-- an atom was read, and its postfixes fail, or are read as well
+pub posts_fail : (s : Stop) (e c : Reader Tree) (ts after : List Word) (a : Tree)
+    → by_word (atom_arm e c) ts ≡ Ok (a, after) → Fails s (reader.posts 100 e after) → Fails s (by_word (λ w. chain_arm e (atom_arm e c w)) ts)
+posts_fail s e c ts after a f g = subst (Fails s) (sym (chain_word e c ts ∙ ap (chained e) f)) (fails_onto s a (reader.posts 100 e after) g)
 
-pub word_gives : {X : Type 0} (view : X → Tree × List Word) (result : Result X Stop) (e c : Reader Tree) (ts after : List Word) (a : Tree)
-    → by_word (atom_arm e c) ts ≡ Ok (a, after) → Gives view result (made (λ ps. posted a ps) (reader.posts 100 e) after) → Gives view result (by_word (λ w. chain_arm e (atom_arm e c w)) ts)
-word_gives view result e c ts after a f g = subst (Gives view result) (sym (chain_word e c ts ∙ ap (chained e) f)) g
+pub posts_read : (e c : Reader Tree) (ts after rest : List Word) (a t : Tree) (ps : List PlainPost)
+    → by_word (atom_arm e c) ts ≡ Ok (a, after) → reader.posts 100 e after ≡ Ok (map read_post ps, rest) → t ≡ plain.posted a ps → by_word (λ w. chain_arm e (atom_arm e c w)) ts ≡ Ok (t, rest)
+posts_read e c ts after rest a t ps f g is = chain_word e c ts ∙ (ap (chained e) f ∙ (ap (onto a) g ∙ ap (λ z. Ok (z, rest)) (read_all a ps ∙ sym is)))
 
 -- ---- where no level is left
 

@@ -1,5 +1,5 @@
 -- The code's lexemes and trees as plain data, and what a result says of a reader.
-use Rattle.std.specs.Prelude.{ℕ, ◌≡◌, Bool, true, false, List, map, Option, Result, Ok, Err}
+use Rattle.std.specs.Prelude.{ℕ, ◌≡◌, Bool, true, false, List, [], ◌∷◌, map, Option, Result, Ok, Err}
 use Rattle.flight_syntax.specs.Lexicon.{Placed, Word, U, is_mark, name_of}
 use Rattle.flight_syntax.specs.Lexicon as lexicon
 use Rattle.flight_syntax.specs.Tree as tree
@@ -13,12 +13,11 @@ use Rattle.flight_tree.specs.declared.lexeme.Lexeme.TheVariants as code
 use Rattle.flight_tree.specs.declared.stop.Stop.{Stop}
 use Rattle.flight_tree.specs.declared.stop.Stop.TheVariants as stops
 use Rattle.flight_tree.specs.declared.tree.Tree as declared
-use Rattle.flight_tree.specs.declared.tree.Tree.TheOpen.{Tree-F, Property-F, Entry-F}
-use Rattle.flight_tree.specs.declared.tree.Tree.TheFolds.{fold-Tree, fold-Property, fold-Entry}
+use Rattle.flight_tree.specs.declared.tree.Post.TheOpen.{Tree-F, Property-F, Entry-F, Post-F}
+use Rattle.flight_tree.specs.declared.tree.Post.TheFolds.{fold-Tree, fold-Property, fold-Entry, fold-Post}
 use Rattle.flight_tree.specs.declared.tree.Property.{Property}
 use Rattle.flight_tree.specs.declared.tree.Entry.{Entry}
 use Rattle.flight_tree.specs.declared.tree.Post.{Post}
-use Rattle.flight_tree.specs.declared.tree.Post.TheVariants as posts
 
 -- a name with its place
 abbrev pub placed : Name → Placed
@@ -42,14 +41,29 @@ words lexemes = map word lexemes
 abbrev pub action_of : Placed → Option (List Tree) → Tree
 action_of named bound = reader.action_of (named, bound)
 
+-- a postfix: the name behind a dot, or the expression in brackets
+pub data PlainPost : Type 0 where
+  named : (name : Placed) → PlainPost
+  indexed : (inside : Tree) → PlainPost
+
+-- as the reader has it
+abbrev pub read_post : PlainPost → reader.Post
+read_post (named name) = reader.named name
+read_post (indexed inside) = reader.indexed inside
+
+-- an expression with its postfixes, in the order written
+abbrev pub posted : Tree → List PlainPost → Tree
+posted of [] = of
+posted of (named name ∷ posts) = posted (tree.member of name) posts
+posted of (indexed inside ∷ posts) = posted (tree.index of inside) posts
+
 -- one level, with each tree inside already seen as plain data
-abbrev pub tree_step : Tree-F Tree (Tree × Tree) (Placed × Tree) → Tree
+abbrev pub tree_step : Tree-F PlainPost Tree (Tree × Tree) (Placed × Tree) → Tree
 tree_step (Tree-F.Let name value rest) = tree.let_in (placed name) value rest
 tree_step (Tree-F.If test yes_one other) = tree.if_else test yes_one other
 tree_step (Tree-F.For name over give) = tree.for_in (placed name) over give
 tree_step (Tree-F.Throw value) = tree.throw value
-tree_step (Tree-F.Member of name) = tree.member of (placed name)
-tree_step (Tree-F.Index of at) = tree.index of at
+tree_step (Tree-F.Postfixed of posts) = posted of posts
 tree_step (Tree-F.Atom value) = tree.atom value
 tree_step (Tree-F.Variable name) = tree.variable (placed name)
 tree_step (Tree-F.Client name) = tree.client (placed name)
@@ -65,26 +79,28 @@ tree_step (Tree-F.Paren inside) = tree.paren inside
 tree_step (Tree-F.Binary op left right) = tree.binary op left right
 tree_step (Tree-F.Element tag attrs children) = tree.element (placed tag) (props_of attrs) (trees_of children)
 
-abbrev pub property_step : Property-F Tree (Tree × Tree) (Placed × Tree) → Placed × Tree
+abbrev pub property_step : Property-F PlainPost Tree (Tree × Tree) (Placed × Tree) → Placed × Tree
 property_step p = (placed p.name, p.value)
 
-abbrev pub entry_step : Entry-F Tree (Tree × Tree) (Placed × Tree) → Tree × Tree
+abbrev pub entry_step : Entry-F PlainPost Tree (Tree × Tree) (Placed × Tree) → Tree × Tree
 entry_step p = (p.key, p.value)
 
--- an expression, a property and an entry as plain data
+abbrev pub post_step : Post-F PlainPost Tree (Tree × Tree) (Placed × Tree) → PlainPost
+post_step (Post-F.Named name) = named (placed name)
+post_step (Post-F.Indexed inside) = indexed inside
+
+-- an expression, a property, an entry and a postfix as plain data
 abbrev pub tree_of : declared.Tree → Tree
-tree_of = fold-Tree Tree (Tree × Tree) (Placed × Tree) tree_step entry_step property_step
+tree_of = fold-Tree PlainPost Tree (Tree × Tree) (Placed × Tree) post_step tree_step entry_step property_step
 
 abbrev pub property_of : Property → Placed × Tree
-property_of = fold-Property Tree (Tree × Tree) (Placed × Tree) tree_step entry_step property_step
+property_of = fold-Property PlainPost Tree (Tree × Tree) (Placed × Tree) post_step tree_step entry_step property_step
 
 abbrev pub entry_of : Entry → Tree × Tree
-entry_of = fold-Entry Tree (Tree × Tree) (Placed × Tree) tree_step entry_step property_step
+entry_of = fold-Entry PlainPost Tree (Tree × Tree) (Placed × Tree) post_step tree_step entry_step property_step
 
--- a postfix as plain data
-abbrev pub post_of : Post → reader.Post
-post_of (posts.Named name) = reader.named (placed name)
-post_of (posts.Indexed at) = reader.indexed (tree_of at)
+abbrev pub post_of : Post → PlainPost
+post_of = fold-Post PlainPost Tree (Tree × Tree) (Placed × Tree) post_step tree_step entry_step property_step
 
 -- the reader of one postfix
 abbrev pub postfix : Reader Tree → Reader reader.Post

@@ -1,13 +1,12 @@
-ghost use Rattle.std.specs.Prelude.{◌≡◌, [], ◌∷◌, IfOk};
+ghost use Rattle.std.specs.Prelude.{◌≡◌, IfOk, map};
 ghost use Rattle.flight_syntax.specs.Tree as tree;
-ghost use Rattle.flight_grammar.specs.Reader as reader;
-ghost use Rattle.flight_tree.specs.Code.{placed, tree_of, post_of};
+ghost use Rattle.flight_tree.specs.Code.{placed, tree_of, post_of, posted};
 
 use crate::lexeme::Name;
 use crate::tree::{Post, Tree};
 use flight_syntax::Op;
 use flight_value::Memory;
-use sqlite_items::Boxed;
+use sqlite_items::{Boxed, Items};
 use std::alloc::Global;
 
 /// `let name = value in then`.
@@ -61,16 +60,13 @@ pub fn binary(alloc: Global, op: Op, left: Tree, right: Tree) -> Result<Tree, Me
     Ok(Tree::Binary { op, left, right })
 }
 
-/// An expression with a postfix.
-pub fn posted(alloc: Global, of: Tree, post: Post) -> Result<Tree, Memory>
-    ensures { IfOk result (λ t. tree_of t ≡ reader.posted (tree_of of) (post_of post ∷ [])) }
+/// An expression with its postfixes, in the order written; without any it stays as it is.
+pub fn posted(alloc: Global, of: Tree, posts: Items<Post>) -> Result<Tree, Memory>
+    ensures { IfOk result (λ t. tree_of t ≡ posted (tree_of of) (map post_of posts)) }
 {
-    let of = Boxed::new(alloc, of)?;
-    match post {
-        Post::Named(name) => Ok(Tree::Member { of, name }),
-        Post::Indexed(at) => {
-            let at = Boxed::new(alloc, at)?;
-            Ok(Tree::Index { of, at })
-        }
+    if posts.is_empty() {
+        return Ok(of);
     }
+    let of = Boxed::new(alloc, of)?;
+    Ok(Tree::Postfixed { of, posts })
 }

@@ -6,7 +6,7 @@ ghost use Rattle.flight_syntax.specs.declared.word.Keyword.TheVariants.{In};
 ghost use Rattle.flight_syntax.specs.declared.word.Punctuator.TheVariants.{OpenBracket, CloseBracket, OpenBrace, CloseBrace, Comma, Assign, Greater};
 ghost use Rattle.flight_grammar.specs.Reading.{both, made, behind, closed, by_word, by_arm, more, first_and};
 ghost use Rattle.flight_grammar.specs.Reader as reader;
-ghost use Rattle.flight_tree.specs.Code.{words, placed, tree_of, property_of, entry_of, post_of, postfix, at_level, Gives, Fails};
+ghost use Rattle.flight_tree.specs.Code.{words, placed, tree_of, property_of, entry_of, post_of, read_post, postfix, at_level, Gives, Fails};
 
 use crate::build::{binary, for_in, if_else, let_in, paren, posted, throw};
 use crate::lexeme::{Lexeme, Name};
@@ -167,7 +167,8 @@ fn chain<'a, F: Fn(bool, &'a [Lexeme]) -> Result<(Tree, &'a [Lexeme]), Stop>>(
         (by_word (λ word. reader.chain_arm (reader.expression below) (reader.atom_arm (reader.expression below) (reader.child_element below) word)) (words lexemes.now)) }
 {
     let (atom, rest) = atom(alloc, below, read, lexemes)?;
-    posts(alloc, below, read, atom, rest)
+    let (posts, rest) = posts(alloc, below, read, rest)?;
+    Ok((posted(alloc, atom, posts)?, rest))
 }
 
 /// Behind `let`.
@@ -294,28 +295,26 @@ fn posts<'a, F: Fn(bool, &'a [Lexeme]) -> Result<(Tree, &'a [Lexeme]), Stop>>(
     alloc: Global,
     below: u32,
     read: &F,
-    atom: Tree,
     lexemes: &'a [Lexeme],
-) -> Result<(Tree, &'a [Lexeme]), Stop>
+) -> Result<(Items<Post>, &'a [Lexeme]), Stop>
     requires callable { F.IsAlwaysCallable read.now }
     requires reads { (child : _) (ls : _) (r : _) → F.post read.now child ls r → Gives (λ x. (tree_of x.0, words x.1.now)) r (at_level child below (words ls.now)) }
-    ensures { Gives (λ x. (tree_of x.0, words x.1.now)) result
-        (made (λ ps. reader.posted (tree_of atom) ps) (reader.posts 100 (reader.expression below)) (words lexemes.now)) }
+    ensures { Gives (λ x. (map read_post (map post_of x.0), words x.1.now)) result (reader.posts 100 (reader.expression below) (words lexemes.now)) }
 {
-    let mut of = atom;
+    let mut posts = Items::new(alloc);
     let mut rest = lexemes;
     for _ in 0..100_u32 {
         if !starts_post(rest) {
-            return Ok((of, rest));
+            return Ok((posts, rest));
         }
         let (post, after) = post(alloc, below, read, rest)?;
-        of = posted(alloc, of, post)?;
+        posts.push(post)?;
         rest = after;
     }
     if starts_post(rest) {
         return Err(too_deep(rest));
     }
-    Ok((of, rest))
+    Ok((posts, rest))
 }
 
 /// One postfix.
@@ -327,7 +326,7 @@ fn post<'a, F: Fn(bool, &'a [Lexeme]) -> Result<(Tree, &'a [Lexeme]), Stop>>(
 ) -> Result<(Post, &'a [Lexeme]), Stop>
     requires callable { F.IsAlwaysCallable read.now }
     requires reads { (child : _) (ls : _) (r : _) → F.post read.now child ls r → Gives (λ x. (tree_of x.0, words x.1.now)) r (at_level child below (words ls.now)) }
-    ensures { Gives (λ x. (post_of x.0, words x.1.now)) result (postfix (reader.expression below) (words lexemes.now)) }
+    ensures { Gives (λ x. (read_post (post_of x.0), words x.1.now)) result (postfix (reader.expression below) (words lexemes.now)) }
 {
     if let Some(rest) = behind_mark(Punctuator::Dot, lexemes) {
         let (name, rest) = any_name(alloc, rest)?;

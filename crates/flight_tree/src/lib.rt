@@ -26,4 +26,4 @@ pub use fault::TreeFault;
 pub use json_value::{Json, Member};
 pub use lexeme::Name;
 pub use read::declarations;
-pub use tree::{Entry, Property, Tree};
+pub use tree::{Entry, Post, Property, Tree};

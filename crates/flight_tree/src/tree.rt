@@ -19,6 +19,16 @@ pub struct Entry {
     pub value: Tree,
 }
 
+/// A postfix.
+#[derive(Drop)]
+#[cycle(tree)]
+pub enum Post {
+    /// `.name`.
+    Named(Name),
+    /// `[at]`.
+    Indexed(Tree),
+}
+
 /// An expression as it is written, with names and where they stand.
 ///
 /// On each way back to an expression stand `Items` and `Boxed`, which contracts see as a list and as a
@@ -42,13 +52,10 @@ pub enum Tree {
         give: Boxed<Tree>,
     },
     Throw(Boxed<Tree>),
-    Member {
+    /// An expression with its postfixes, in the order written.
+    Postfixed {
         of: Boxed<Tree>,
-        name: Name,
-    },
-    Index {
-        of: Boxed<Tree>,
-        at: Boxed<Tree>,
+        posts: Items<Post>,
     },
     Atom(Atom),
     Variable(Name),
@@ -75,11 +82,4 @@ pub enum Tree {
         attributes: Items<Property>,
         children: Items<Tree>,
     },
-}
-
-/// A postfix.
-#[derive(Drop)]
-pub enum Post {
-    Named(Name),
-    Indexed(Tree),
 }

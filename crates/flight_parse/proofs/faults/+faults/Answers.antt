@@ -1,9 +1,10 @@
 use Rattle.std.proofs.Common.{◌≡◌, ◌++◌, ◌∷◌, [], map, take, drop, codes, bytes_eq, refl, sym, ap, subst, ◌∙◌, arith, rules, if◌then◌else◌}
 use Rattle.flight_syntax.specs.Faults as faults
-use Rattle.flight_tree.specs.Code.{placed, tree_of, property_of, entry_of}
+use Rattle.flight_tree.specs.Code.{placed, tree_of, property_of, entry_of, post_of}
 use Rattle.flight_syntax.specs.Tree.{trees_of, props_of, pairs_of}
 use Rattle.flight_parse.specs.Names.{IsFirst, all_of, params_of, scope_of, inside_out}
-use Rattle.flight_parse.proofs.Firsts.{steps, append_assoc}
+use Rattle.flight_parse.proofs.Firsts.{steps, append_assoc, posted_faults}
+use Rattle.flight_parse.specs.Posts.{faults_post, faults_posts}
 use Rattle.flight_parse.proofs.Scopes.{inside_one}
 use Rattle.flight_parse.proofs.faults.+faults.Goals as goal
 
@@ -12,6 +13,17 @@ in_each-loop-item-preserved t c =
     steps (λ xs. faults.faults_each (all_of c.args.body.now) (scope_of c.args.body.now c.args.locals.now) (trees_of (map tree_of xs))) (λ x. faults.faults (all_of c.args.body.now) (scope_of c.args.body.now c.args.locals.now) (tree_of x)) (λ x xs. refl)
     c.args.items.now c.loop-item.item-index c.item-item.result (omega arith) c.item-item.is c.loop-item.first c.first_of-first.result c.in_ok-fault.fault (faults.first_fault (faults.faults_each (all_of c.args.body.now) (scope_of c.args.body.now c.args.locals.now) (trees_of (map tree_of c.args.items.now))))
     c.loop-item.invariant c.in_ok-fault.ensures c.first_of-first.ensures.is
+
+pub in_posts-loop-post-preserved : goal.in_posts-loop-post-preserved
+in_posts-loop-post-preserved t c =
+    steps (λ xs. faults_posts (all_of c.args.body.now) (scope_of c.args.body.now c.args.locals.now) (map post_of xs)) (λ x. faults_post (all_of c.args.body.now) (scope_of c.args.body.now c.args.locals.now) (post_of x)) (λ x xs. refl)
+    c.args.posts.now c.loop-post.post-index c.post-item.result (omega arith) c.post-item.is c.loop-post.first c.first_of-first.result c.in_ok-fault.fault (faults.first_fault (faults_posts (all_of c.args.body.now) (scope_of c.args.body.now c.args.locals.now) (map post_of c.args.posts.now)))
+    c.loop-post.invariant c.in_ok-fault.ensures c.first_of-first.ensures.is
+
+pub in_postfixed-returns : goal.in_postfixed-returns
+in_postfixed-returns t c =
+    subst (IsFirst c.first_of.result) (sym (posted_faults (all_of c.args.body.now) (scope_of c.args.body.now c.args.locals.now) (tree_of c.args.of.now) (map post_of c.args.posts.now)))
+    (c.first_of.ensures.parts (faults.faults (all_of c.args.body.now) (scope_of c.args.body.now c.args.locals.now) (tree_of c.args.of.now)) (faults_posts (all_of c.args.body.now) (scope_of c.args.body.now c.args.locals.now) (map post_of c.args.posts.now)) c.in_ok-first.ensures c.in_ok-others.ensures)
 
 pub in_properties-loop-property-preserved : goal.in_properties-loop-property-preserved
 in_properties-loop-property-preserved t c =

@@ -5,9 +5,11 @@ use Rattle.flight_syntax.specs.Faults as faults
 use Rattle.flight_tree.specs.declared.tree.Tree.{size-Tree}
 use Rattle.flight_tree.specs.declared.tree.Property.{size-Property}
 use Rattle.flight_tree.specs.declared.tree.Entry.{size-Entry}
-use Rattle.flight_tree.specs.Code.{placed, tree_of, property_of, entry_of}
+use Rattle.flight_tree.specs.declared.tree.Post.{size-Post}
+use Rattle.flight_tree.specs.Code.{placed, tree_of, property_of, entry_of, post_of}
 use Rattle.flight_parse.specs.Names.{all_of, scope_of}
 use Rattle.flight_parse.specs.Seen.{going}
+use Rattle.flight_parse.specs.Posts.{faults_posts}
 use Rattle.flight_parse.proofs.faults.+faults.Given as goal
 
 abbrev pub decreases-in_tree : goal.decreases-in_tree
@@ -21,6 +23,15 @@ decreases-in_two l = 4 * max (size-Tree l.one.now) (size-Tree l.other.now) + 1
 
 abbrev pub decreases-in_three : goal.decreases-in_three
 decreases-in_three l = 4 * max (size-Tree l.one.now) (max (size-Tree l.two.now) (size-Tree l.three.now)) + 2
+
+abbrev pub decreases-in_postfixed : goal.decreases-in_postfixed
+decreases-in_postfixed l = 4 * max (size-Tree l.of.now) (most size-Post l.posts.now) + 3
+
+abbrev pub decreases-in_posts : goal.decreases-in_posts
+decreases-in_posts l = 4 * most size-Post l.posts.now + 2
+
+abbrev pub decreases-in_post : goal.decreases-in_post
+decreases-in_post l = 4 * size-Post l.post.now + 1
 
 abbrev pub decreases-in_bound : goal.decreases-in_bound
 decreases-in_bound l = 4 * most size-Tree l.bound.now + 2
@@ -48,6 +59,9 @@ decreases-in_entry l = 4 * size-Entry l.entry.now + 2
 
 abbrev pub invariant-in_each-loop-item : goal.invariant-in_each-loop-item
 invariant-in_each-loop-item l = going l.first (faults.faults_each (all_of l.body) (scope_of l.body l.locals) (trees_of (map tree_of (drop l.item-index l.items)))) ≡ faults.first_fault (faults.faults_each (all_of l.body) (scope_of l.body l.locals) (trees_of (map tree_of l.items)))
+
+abbrev pub invariant-in_posts-loop-post : goal.invariant-in_posts-loop-post
+invariant-in_posts-loop-post l = going l.first (faults_posts (all_of l.body) (scope_of l.body l.locals) (map post_of (drop l.post-index l.posts))) ≡ faults.first_fault (faults_posts (all_of l.body) (scope_of l.body l.locals) (map post_of l.posts))
 
 abbrev pub invariant-in_properties-loop-property : goal.invariant-in_properties-loop-property
 invariant-in_properties-loop-property l = going l.first (faults.faults_props (all_of l.body) (scope_of l.body l.locals) (props_of (map property_of (drop l.property-index l.properties)))) ≡ faults.first_fault (faults.faults_props (all_of l.body) (scope_of l.body l.locals) (props_of (map property_of l.properties)))
