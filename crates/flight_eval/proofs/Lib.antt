@@ -5,3 +5,4 @@ pub mod StableOrder
 pub mod Starts
 pub mod Steps
 pub mod Stopped
+pub mod Charges

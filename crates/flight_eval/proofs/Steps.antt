@@ -1,5 +1,5 @@
 -- One step of an evaluation, over the lists of the code: what goes on, and what stops.
-use Rattle.std.proofs.Common.{ℕ, ◌+◌, ◌<◌, ◌≡◌, ap, sym, subst, refl, ◌∙◌, List, [], ◌∷◌, ◌++◌, map, drop, length, get_or, Option, Result}
+use Rattle.std.proofs.Common.{ℕ, suc, ◌+◌, ◌<◌, ◌≡◌, ap, sym, subst, refl, ◌∙◌, List, [], ◌∷◌, ◌++◌, map, drop, length, get_or, Option, Result, arith}
 use Rattle.std.proofs.lemmas.List.{at_drop_more}
 use Rattle.flight_value.specs.declared.made.MadeKind.TheVariants as kind
 use Rattle.flight_value.specs.declared.made.Tree.{Tree}
@@ -8,17 +8,18 @@ use Rattle.flight_syntax.specs.declared.expr.Op.TheVariants as op
 use Rattle.flight_syntax.specs.declared.expr.Expr.{Expr}
 use Rattle.flight_syntax.specs.declared.expr.PropExpr.{PropExpr}
 use Rattle.flight_syntax.specs.declared.expr.PairExpr.{PairExpr}
+use Rattle.flight_syntax.specs.declared.expr.Postfix.{Postfix}
 use Rattle.flight_syntax.specs.declared.expr.Tag.{Tag}
-use Rattle.flight_syntax.specs.Term.{Term, Terms, term, prop, pair, terms_of, props_of, pairs_of, for_in, binary, term_and, prop_and, pair_and}
+use Rattle.flight_syntax.specs.Term.{Term, Terms, term, prop, pair, terms_of, props_of, pairs_of, for_in, binary, term_and, prop_and, pair_and, Post, named, indexed, post, posted, posted_one}
 use Rattle.flight_syntax.proofs.Terms.{prop-value, pair-value}
-use Rattle.flight_render.specs.Run.{Machine, gave, Run, pay, and_then, ends, give}
+use Rattle.flight_render.specs.Run.{Machine, Step, gave, threw, waits, Run, pay, on_step, and_then, ends, give}
 use Rattle.flight_render.specs.Values.{items_in}
 use Rattle.flight_render.specs.Operators.{type_digest}
 use Rattle.flight_render.specs.Eval.{Context, Attributes, known, make_here, give_or_fail, each, with_attribute, with_children, make_element, eval, eval_all, eval_props, eval_pairs, eval_attrs}
 use Rattle.flight_eval.specs.declared.stop.Stop.{Stop}
 use Rattle.flight_eval.specs.Gives.{Stopped, Gives}
-use Rattle.flight_eval.specs.Productions.{both_run, operator_run, no_attributes}
-use Rattle.flight_eval.proofs.Stopped.{stopped_then, all_stopped, props_stopped, key_stopped, value_stopped, attr_stopped, named_stopped, children_stopped, each_stopped, each_then}
+use Rattle.flight_eval.specs.Productions.{both_run, operator_run, no_attributes, post_run, posts_run}
+use Rattle.flight_eval.proofs.Stopped.{stopped_then, post_stopped, all_stopped, props_stopped, key_stopped, value_stopped, attr_stopped, named_stopped, children_stopped, each_stopped, each_then}
 
 -- ---- `for`
 
@@ -78,6 +79,62 @@ all_at cx items i x env so_far m lt is =
 pub all_stop : (fuel : ℕ) (cx : Context) (s : Stop) (n : Machine) (items : List Expr) (i : ℕ) (x : Expr) (env so_far : List Tree) (m : Machine) → i < length items → x ≡ get_or items i x → Stopped fuel (eval cx (term x) env m) s n → Stopped fuel (eval_all cx (terms_of (map term (drop i items))) env so_far m) s n
 all_stop fuel cx s n items i x env so_far m lt is h =
     subst (λ z. Stopped fuel z s n) (sym (all_at cx items i x env so_far m lt is)) (all_stopped fuel cx s n (term x) (terms_of (map term (drop (i + 1) items))) env so_far m h)
+
+-- ---- postfixes
+
+give-then : (r : Run Tree) → and_then r (λ t n. give t n) ≡ r
+give-then r = of r.step
+  where
+    of : (s : Step Tree) → on_step s (λ t n. give t n) r.after ≡ ends s r.after
+    of (gave t) = refl
+    of (threw d) = refl
+    of (waits n) = refl
+
+then-then : (r : Run Tree) (f g : Tree → Machine → Run Tree) → and_then (and_then r f) g ≡ and_then r (λ t n. and_then (f t n) g)
+then-then r f g = of r.step
+  where
+    of : (s : Step Tree) → and_then (on_step s f r.after) g ≡ on_step s (λ t n. and_then (f t n) g) r.after
+    of (gave t) = refl
+    of (threw d) = refl
+    of (waits n) = refl
+
+one_posted : (cx : Context) (t : Term) (p : Post) (env : List Tree) (m : Machine) → eval cx (posted_one t p) env m ≡ and_then (eval cx t env (pay 1 m)) (λ u n. post_run cx p env u n)
+one_posted cx t (named name) env m = refl
+one_posted cx t (indexed at) env m = refl
+
+abbrev at_cost : Machine → ℕ → Machine
+at_cost m k = record { made = m.made; cost = k }
+
+paid_more : (n : ℕ) (m : Machine) → pay 1 (pay n m) ≡ pay (suc n) m
+paid_more n m = let e : m.cost + n + 1 ≡ m.cost + suc n = omega arith in ap (at_cost m) e
+
+-- postfixes are charged all at once, before what they stand on
+posted_run : (cx : Context) (t : Term) (ps : List Post) (env : List Tree) (m : Machine) → eval cx (posted t ps) env m ≡ and_then (eval cx t env (pay (length ps) m)) (posts_run cx ps env)
+posted_run cx t [] env m =
+    let e : m.cost ≡ m.cost + 0 = omega arith in
+    ap (λ k. eval cx t env (at_cost m k)) e ∙ sym (give-then (eval cx t env (pay 0 m)))
+posted_run cx t (p ∷ ps) env m =
+    posted_run cx (posted_one t p) ps env m
+    ∙ (ap (λ r. and_then r (posts_run cx ps env)) (one_posted cx t p env (pay (length ps) m) ∙ ap (λ k. and_then (eval cx t env k) (λ u n. post_run cx p env u n)) (paid_more (length ps) m))
+    ∙ then-then (eval cx t env (pay (suc (length ps)) m)) (λ u n. post_run cx p env u n) (posts_run cx ps env))
+
+pub posted_begun : (fuel : ℕ) (cx : Context) (t : Term) (ps : List Post) (env : List Tree) (m n : Machine) (r : Result Tree Stop) (after : Machine) → n ≡ pay (length ps) m → Gives (λ u. u) fuel (and_then (eval cx t env n) (posts_run cx ps env)) r after → Gives (λ u. u) fuel (eval cx (posted t ps) env m) r after
+posted_begun fuel cx t ps env m n r after paid h =
+    subst (λ z. Gives (λ u. u) fuel z r after) (sym (posted_run cx t ps env m))
+    (subst (λ z. Gives (λ u. u) fuel (and_then (eval cx t env z) (posts_run cx ps env)) r after) paid h)
+
+posts_at : (cx : Context) (posts : List Postfix) (i : ℕ) (x : Postfix) (env : List Tree) (v : Tree) (m : Machine) → i < length posts → x ≡ get_or posts i x → posts_run cx (map post (drop i posts)) env v m ≡ posts_run cx (post x ∷ map post (drop (i + 1) posts)) env v m
+posts_at cx posts i x env v m lt is =
+    let run : List Postfix → Run Tree = λ xs. posts_run cx (map post xs) env v m in
+    at_drop_more run posts i x lt ∙ ap (λ z. run (z ∷ drop (i + 1) posts)) (sym is)
+
+pub posts_stop : (fuel : ℕ) (cx : Context) (s : Stop) (n : Machine) (posts : List Postfix) (i : ℕ) (x : Postfix) (env : List Tree) (v : Tree) (m : Machine) → i < length posts → x ≡ get_or posts i x → Stopped fuel (post_run cx (post x) env v m) s n → Stopped fuel (posts_run cx (map post (drop i posts)) env v m) s n
+posts_stop fuel cx s n posts i x env v m lt is h =
+    subst (λ z. Stopped fuel z s n) (sym (posts_at cx posts i x env v m lt is)) (post_stopped fuel cx s n (post x) (map post (drop (i + 1) posts)) env v m h)
+
+pub posts_step : (cx : Context) (posts : List Postfix) (i : ℕ) (x : Postfix) (v u : Tree) (env : List Tree) (m n : Machine) → i < length posts → x ≡ get_or posts i x → post_run cx (post x) env v m ≡ ends (gave u) n → posts_run cx (map post (drop (i + 1) posts)) env u n ≡ posts_run cx (map post (drop i posts)) env v m
+posts_step cx posts i x v u env m n lt is e =
+    sym (posts_at cx posts i x env v m lt is ∙ ap (λ r. and_then r (λ w k. posts_run cx (map post (drop (i + 1) posts)) env w k)) e)
 
 -- ---- properties
 

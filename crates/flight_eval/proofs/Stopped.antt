@@ -1,5 +1,5 @@
 -- What stopped a part stops the whole, and an expression is charged when it begins.
-use Rattle.std.proofs.Common.{ℕ, ◌+◌, ◌≤◌, ◌<◌, ◌≡◌, suc, ap, sym, Bool, true, false, cond, pos, negsuc, List, [], ◌∷◌, ◌++◌, Option, Some, None, slice_get, arith}
+use Rattle.std.proofs.Common.{ℕ, ◌+◌, ◌≤◌, ◌<◌, ◌≡◌, suc, ap, sym, Bool, true, false, cond, pos, negsuc, List, [], ◌∷◌, ◌++◌, Option, Some, None, slice_get, length, arith}
 use Rattle.std.specs.Prelude.{bytes_eq, codes}
 use Rattle.flight_value.specs.declared.graph.Atom.{Atom}
 use Rattle.flight_value.specs.declared.graph.Atom.TheVariants as atom
@@ -12,13 +12,13 @@ use Rattle.flight_syntax.specs.declared.expr.Op.TheVariants as op
 use Rattle.flight_syntax.specs.declared.expr.Tag.{Tag}
 use Rattle.flight_syntax.specs.declared.expr.Tag.TheVariants as tag
 use Rattle.flight_syntax.specs.Term as term
-use Rattle.flight_syntax.specs.Term.{Term, Terms, Props, Pairs}
+use Rattle.flight_syntax.specs.Term.{Term, Terms, Props, Pairs, Post}
 use Rattle.flight_render.specs.Run.{Machine, Step, gave, threw, waits, Run, pay, on_step, and_then, ends, give, fail}
 use Rattle.flight_render.specs.Values.{source_named, stream_named, source_end, items_in, property_in}
 use Rattle.flight_render.specs.Operators.{type_digest, missing_digest, operated, key_of, thrown}
 use Rattle.flight_render.specs.Eval.{Context, Attributes, known, make_here, give_or_fail, give_atom, item_at, branch, each, make_bound, make_object, with_attribute, with_children, make_tagged, make_element, eval, eval_all, eval_props, eval_pairs, eval_attrs}
 use Rattle.flight_render.proofs.Paid.{Paid, paid-then, paid_option, paid_make, paid_fail, paid_object, paid_item, paid_branch, paid_each, paid_bound, paid_atom, paid_attribute, paid_children, paid_element, eval-paid, all-paid, props-paid, pairs-paid, attrs-paid}
-use Rattle.flight_eval.specs.Productions.{charge}
+use Rattle.flight_eval.specs.Productions.{least_charge, post_run, posts_run}
 use Rattle.flight_eval.specs.declared.stop.Stop.{Stop}
 use Rattle.flight_eval.specs.declared.stop.Stop.TheVariants as stop
 use Rattle.flight_eval.specs.Gives.{Stopped}
@@ -29,7 +29,10 @@ stopped_then fuel r f (stop.Waits s) m later h = (ap (λ z. and_then z f) h.0, h
 stopped_then fuel r f stop.OverFuel m later h = let p = paid-then (suc fuel) r f (record { least = omega (arith, h) }) later in let l = p.least in omega (arith, l)
 stopped_then fuel r f stop.Memory m later h = tt
 
-pub charged : (cx : Context) (t : Term) (env : List Tree) (m : Machine) → Paid (m.cost + charge t) (eval cx t env m)
+one_more : (cx : Context) (t : Term) (env : List Tree) (m : Machine) → Paid (m.cost + 1 + least_charge t) (eval cx t env (pay 1 m)) → Paid (m.cost + suc (least_charge t)) (eval cx t env (pay 1 m))
+one_more cx t env m h = let l = h.least in record { least = omega (arith, l) }
+
+pub charged : (cx : Context) (t : Term) (env : List Tree) (m : Machine) → Paid (m.cost + least_charge t) (eval cx t env m)
 charged cx (term.let_in name value rest) env m = (paid-then _ _ _ (eval-paid cx value env (pay 1 m)) (λ t n. eval-paid cx rest (env ++ t ∷ []) n))
 charged cx (term.if_else test yes_one other) env m =
     (paid-then _ _ _ (eval-paid cx test env (pay 1 m)) (λ t n. paid_branch t (eval cx yes_one env) (eval cx other env) n (eval-paid cx yes_one env n) (eval-paid cx other env n)))
@@ -37,8 +40,8 @@ charged cx (term.for_in name over give_one) env m =
     (paid-then _ _ _ (eval-paid cx over env (pay 1 m)) (λ t n. paid-then n.cost (give_or_fail type_digest (items_in cx.over (known cx n) t) n) _ (paid_option _ _ n)
     (λ items k. paid-then k.cost (each (λ item l. eval cx give_one (env ++ item ∷ []) l) items [] k) _ (paid_each (λ item l. eval cx give_one (env ++ item ∷ []) l) (λ item l. eval-paid cx give_one (env ++ item ∷ []) l) items [] k) (λ ts l. paid_make cx kind.Array ts l))))
 charged cx (term.throw value) env m = (paid-then _ _ _ (eval-paid cx value env (pay 1 m)) (λ t n. paid_fail (thrown t) n))
-charged cx (term.member of name) env m = (paid-then _ _ _ (eval-paid cx of env (pay 1 m)) (λ t n. paid_option type_digest (property_in cx.over (known cx n) name t) n))
-charged cx (term.index of at_one) env m = (paid-then _ _ _ (eval-paid cx of env (pay 1 m)) (λ t n. paid-then _ _ _ (eval-paid cx at_one env n) (λ i k. paid_item cx t i k)))
+charged cx (term.member of name) env m = (paid-then _ _ _ (one_more cx of env m (charged cx of env (pay 1 m))) (λ t n. paid_option type_digest (property_in cx.over (known cx n) name t) n))
+charged cx (term.index of at_one) env m = (paid-then _ _ _ (one_more cx of env m (charged cx of env (pay 1 m))) (λ t n. paid-then _ _ _ (eval-paid cx at_one env n) (λ i k. paid_item cx t i k)))
 charged cx (term.atom a) env m = record { least = omega arith }
 charged cx (term.variable number) env m = record { least = omega arith }
 charged cx (term.client number) env m = record { least = omega arith }
@@ -66,6 +69,14 @@ charged cx (term.element t attrs children) env m =
 give-paid : {A : Type 0} (a : A) (m : Machine) → Paid m.cost (give a m)
 give-paid a m = record { least = omega arith }
 
+post-paid : (cx : Context) (p : Post) (env : List Tree) (v : Tree) (m : Machine) → Paid m.cost (post_run cx p env v m)
+post-paid cx (term.named name) env v m = paid_option type_digest (property_in cx.over (known cx m) name v) m
+post-paid cx (term.indexed at) env v m = paid-then m.cost (eval cx at env m) (λ i k. item_at cx v i k) (eval-paid cx at env m) (λ i k. paid_item cx v i k)
+
+posts-paid : (cx : Context) (ps : List Post) (env : List Tree) (v : Tree) (m : Machine) → Paid m.cost (posts_run cx ps env v m)
+posts-paid cx [] env v m = give-paid v m
+posts-paid cx (p ∷ ps) env v m = paid-then m.cost (post_run cx p env v m) (λ u k. posts_run cx ps env u k) (post-paid cx p env v m) (λ u k. posts-paid cx ps env u k)
+
 -- ---- each production, stopped in its first part
 
 module _ (fuel : ℕ) (cx : Context) (s : Stop) (n : Machine) where
@@ -86,8 +97,14 @@ module _ (fuel : ℕ) (cx : Context) (s : Stop) (n : Machine) where
       (λ x l. paid-then l.cost (give_or_fail type_digest (items_in cx.over (known cx l) x) l) _ (paid_option _ _ l)
       (λ items k. paid-then k.cost (each (λ item j. eval cx t (env ++ item ∷ []) j) items [] k) _ (paid_each (λ item j. eval cx t (env ++ item ∷ []) j) (λ item j. eval-paid cx t (env ++ item ∷ []) j) items [] k) (λ ts j. paid_make cx kind.Array ts j)))
 
-  pub index_stopped : (v t : Term) (env : List Tree) (m : Machine) → Stopped fuel (eval cx v env m) s n → Stopped fuel (and_then (eval cx v env m) (λ x l. and_then (eval cx t env l) (λ i k. item_at cx x i k))) s n
-  index_stopped v t env m = stopped_then fuel (eval cx v env m) (λ x l. and_then (eval cx t env l) (λ i k. item_at cx x i k)) s n (λ x l. paid-then l.cost (eval cx t env l) (λ i k. item_at cx x i k) (eval-paid cx t env l) (λ i k. paid_item cx x i k))
+  pub number_stopped : (v : Tree) (t : Term) (env : List Tree) (m : Machine) → Stopped fuel (eval cx t env m) s n → Stopped fuel (and_then (eval cx t env m) (λ i k. item_at cx v i k)) s n
+  number_stopped v t env m = stopped_then fuel (eval cx t env m) (λ i k. item_at cx v i k) s n (λ i k. paid_item cx v i k)
+
+  pub post_stopped : (p : Post) (ps : List Post) (env : List Tree) (v : Tree) (m : Machine) → Stopped fuel (post_run cx p env v m) s n → Stopped fuel (posts_run cx (p ∷ ps) env v m) s n
+  post_stopped p ps env v m = stopped_then fuel (post_run cx p env v m) (λ u k. posts_run cx ps env u k) s n (λ u k. posts-paid cx ps env u k)
+
+  pub posted_stopped : (t : Term) (ps : List Post) (env : List Tree) (m : Machine) → Stopped fuel (eval cx t env m) s n → Stopped fuel (and_then (eval cx t env m) (posts_run cx ps env)) s n
+  posted_stopped t ps env m = stopped_then fuel (eval cx t env m) (posts_run cx ps env) s n (λ u k. posts-paid cx ps env u k)
 
   pub both_stopped : (o : Op) (v t : Term) (env : List Tree) (m : Machine) → Stopped fuel (eval cx v env m) s n → Stopped fuel (and_then (eval cx v env m) (λ x l. and_then (eval cx t env l) (λ y k. give_atom (operated o x y) k))) s n
   both_stopped o v t env m = stopped_then fuel (eval cx v env m) (λ x l. and_then (eval cx t env l) (λ y k. give_atom (operated o x y) k)) s n (λ x l. paid-then l.cost (eval cx t env l) (λ y k. give_atom (operated o x y) k) (eval-paid cx t env l) (λ y k. paid_atom (operated o x y) k))
@@ -128,8 +145,17 @@ module _ (fuel : ℕ) (cx : Context) (s : Stop) (n : Machine) where
   element_stopped t ps ts env x m = stopped_then fuel (eval_attrs cx ps env x m) (λ more l. and_then (eval_all cx ts env [] l) (λ inside k. and_then (with_children cx more inside k) (make_element cx t))) s n
       (λ more l. paid-then l.cost (eval_all cx ts env [] l) (λ inside k. and_then (with_children cx more inside k) (make_element cx t)) (all-paid cx ts env [] l) (λ inside k. paid-then k.cost (with_children cx more inside k) (make_element cx t) (paid_children cx more inside k) (λ y j. paid_element cx t y j)))
 
-pub over_charged : (fuel : ℕ) (cx : Context) (t : Term) (env : List Tree) (m n : Machine) → fuel < m.cost + charge t → Stopped fuel (eval cx t env m) stop.OverFuel n
-over_charged fuel cx t env m n h = let p = charged cx t env m in let l = p.least in omega (arith, h, l)
+pub over_charged : (fuel : ℕ) (cx : Context) (t : Term) (env : List Tree) (m n : Machine) (amount : ℕ) → amount ≤ least_charge t → fuel < m.cost + amount → Stopped fuel (eval cx t env m) stop.OverFuel n
+over_charged fuel cx t env m n amount least h = let p = charged cx t env m in let l = p.least in omega (arith, h, l, least)
+
+-- postfixes on an expression are charged each
+pub posts_charge : (t : Term) (ps : List Post) → length ps ≤ least_charge (term.posted t ps)
+posts_charge t ps = let l = charges t ps in omega (arith, l)
+  where
+    charges : (u : Term) (qs : List Post) → length qs + least_charge u ≤ least_charge (term.posted u qs)
+    charges u [] = omega arith
+    charges u (term.named name ∷ qs) = let l = charges (term.member u name) qs in omega (arith, l)
+    charges u (term.indexed at ∷ qs) = let l = charges (term.index u at) qs in omega (arith, l)
 
 -- the items of `for`
 pub items_stopped : (fuel : ℕ) (cx : Context) (s : Stop) (n : Machine) (o : Option (List Tree)) (t : Term) (env : List Tree) (m : Machine) → Stopped fuel (give_or_fail type_digest o m) s n → Stopped fuel (and_then (give_or_fail type_digest o m) (λ items k. and_then (each (λ item j. eval cx t (env ++ item ∷ []) j) items [] k) (make_here cx kind.Array))) s n

@@ -1,5 +1,5 @@
 ghost use Rattle.std.specs.Prelude.{◌≡◌, ◌≤◌, ◌++◌, ◌∷◌, [], OnOk, map};
-ghost use Rattle.flight_syntax.specs.Term.{term, prop, pair, terms_of, props_of, pairs_of};
+ghost use Rattle.flight_syntax.specs.Term.{term, prop, pair, post, terms_of, props_of, pairs_of};
 ghost use Rattle.flight_value.specs.declared.made.MadeKind.TheVariants.{Array as array_kind};
 ghost use Rattle.flight_render.specs.Run.{and_then, give};
 ghost use Rattle.flight_render.specs.Values.{items_in};
@@ -7,7 +7,7 @@ ghost use Rattle.flight_render.specs.Operators.{type_digest};
 ghost use Rattle.flight_render.specs.Eval.{eval, eval_all, eval_props, eval_pairs, eval_attrs, known, each, branch, give_or_fail, item_at, make_here, with_children, make_element};
 ghost use Rattle.flight_eval.specs.Gives.{work_of, context_of, Gives};
 ghost use Rattle.flight_eval.specs.Object.{pair_of, attributes_of};
-ghost use Rattle.flight_eval.specs.Productions.{charge, no_attributes, both_run, operator_run};
+ghost use Rattle.flight_eval.specs.Productions.{charge, least_charge, no_attributes, both_run, operator_run, post_run, posts_run};
 
 use crate::object::{Attributes, Property, make_bound, with_attribute, with_children};
 use crate::operators::throws;
@@ -19,15 +19,17 @@ use crate::place::Place;
 use crate::sorted::{make_element, make_object};
 use crate::stop::Stop;
 use crate::work::{Work, make, pay};
-use flight_syntax::{Expr, Op, PairExpr, PropExpr, Tag};
+use flight_syntax::{Expr, Op, PairExpr, Postfix, PropExpr, Tag};
 use flight_value::{Atom, MadeKind, Tree};
 
-/// What an expression is charged when it begins: parentheses are free.
+/// What an expression is charged when it begins: each of its postfixes, or once, and parentheses are free.
 fn charge(e: &Expr) -> u64
-    ensures { result ≡ charge (term e.now) }
+    ensures is { result ≡ charge e.now }
+    ensures least { result ≤ least_charge (term e.now) }
 {
     match e {
         Expr::Paren(_) => 0,
+        Expr::Postfixed { postfixes, .. } => postfixes.len() as u64,
         _ => 1,
     }
 }
@@ -49,11 +51,9 @@ pub fn eval(place: &Place, e: &Expr, env: &mut Vec<Tree>, work: &mut Work) -> Re
             let value = eval(place, value.get(), env, work)?;
             throw(place, value, work)
         }
-        Expr::Member { of, name } => {
-            let object = eval(place, of.get(), env, work)?;
-            property(place, name, &object, work)
+        Expr::Postfixed { of, postfixes } => {
+            eval_postfixed(place, of.get(), postfixes.as_slice(), env, work)
         }
-        Expr::Index { of, at } => eval_index(place, of.get(), at.get(), env, work),
         Expr::Array(items) => {
             let slots = eval_all(place, items.as_slice(), env, work)?;
             make(place, MadeKind::Array, slots, work)
@@ -159,22 +159,77 @@ fn eval_for(
     make(place, MadeKind::Array, slots, work)
 }
 
+/// An expression, and then its postfixes, which are charged already.
+#[cycle(evaluation)]
+fn eval_postfixed(
+    place: &Place,
+    of: &Expr,
+    postfixes: &[Postfix],
+    env: &mut Vec<Tree>,
+    work: &mut Work,
+) -> Result<Tree, Stop>
+    requires within { work.old.cost ≤ place.now.fuel }
+    ensures gives { Gives (λ t. t) place.now.fuel (and_then (eval (context_of place.now) (term of.now) env.old.items (work_of work.old)) (posts_run (context_of place.now) (map post postfixes.now) env.old.items)) result (work_of work.new) }
+    ensures env { OnOk result (env.new.items ≡ env.old.items) }
+{
+    let value = eval(place, of, env, work)?;
+    eval_postfixes(place, value, postfixes, env, work)
+}
+
+/// What postfixes give, each on what the one before it gave.
+#[cycle(evaluation)]
+fn eval_postfixes(
+    place: &Place,
+    value: Tree,
+    postfixes: &[Postfix],
+    env: &mut Vec<Tree>,
+    work: &mut Work,
+) -> Result<Tree, Stop>
+    requires within { work.old.cost ≤ place.now.fuel }
+    ensures gives { Gives (λ t. t) place.now.fuel (posts_run (context_of place.now) (map post postfixes.now) env.old.items value (work_of work.old)) result (work_of work.new) }
+    ensures env { OnOk result (env.new.items ≡ env.old.items) }
+{
+    let mut value = value;
+    for postfix in postfixes {
+        value = eval_postfix(place, value, postfix, env, work)?;
+    }
+    Ok(value)
+}
+
+/// What a postfix gives on a value: a property of an object, or an item of an array.
+#[cycle(evaluation)]
+fn eval_postfix(
+    place: &Place,
+    value: Tree,
+    postfix: &Postfix,
+    env: &mut Vec<Tree>,
+    work: &mut Work,
+) -> Result<Tree, Stop>
+    requires within { work.old.cost ≤ place.now.fuel }
+    ensures gives { Gives (λ t. t) place.now.fuel (post_run (context_of place.now) (post postfix.now) env.old.items value (work_of work.old)) result (work_of work.new) }
+    ensures env { OnOk result (env.new.items ≡ env.old.items) }
+{
+    match postfix {
+        Postfix::Member(name) => property(place, name, &value, work),
+        Postfix::Index(at) => eval_index(place, &value, at, env, work),
+    }
+}
+
 /// An item of an array.
 #[cycle(evaluation)]
 fn eval_index(
     place: &Place,
-    of: &Expr,
+    array: &Tree,
     at: &Expr,
     env: &mut Vec<Tree>,
     work: &mut Work,
 ) -> Result<Tree, Stop>
     requires within { work.old.cost ≤ place.now.fuel }
-    ensures gives { Gives (λ t. t) place.now.fuel (and_then (eval (context_of place.now) (term of.now) env.old.items (work_of work.old)) (λ t n. and_then (eval (context_of place.now) (term at.now) env.old.items n) (λ i k. item_at (context_of place.now) t i k))) result (work_of work.new) }
+    ensures gives { Gives (λ t. t) place.now.fuel (and_then (eval (context_of place.now) (term at.now) env.old.items (work_of work.old)) (λ i k. item_at (context_of place.now) array.now i k)) result (work_of work.new) }
     ensures env { OnOk result (env.new.items ≡ env.old.items) }
 {
-    let array = eval(place, of, env, work)?;
     let number = eval(place, at, env, work)?;
-    item_at(place, &array, &number, work)
+    item_at(place, array, &number, work)
 }
 
 /// An operator between two expressions.

@@ -1,7 +1,12 @@
 //! Programs of tests, spelled as words, each behind the parts of its expression.
 
+<<<<<<< HEAD
 use flight_syntax::{Expr, Op, PairExpr, PropExpr, Tag};
 use flight_value::{Atom, Constant, Memory, Text, Wide};
+=======
+use flight_syntax::{Expr, Op, PairExpr, Postfix, PropExpr, Tag};
+use flight_value::{Atom, Constant, Memory, Text};
+>>>>>>> 3de318c (Not proved yet: flight_eval and flight_script over a list of postfixes; conformance and documents)
 use sqlite_items::{Boxed, Items};
 use std::alloc::Global;
 
@@ -55,6 +60,17 @@ fn operator(word: &str) -> Option<Op> {
     }
 }
 
+/// An expression with a postfix more.
+fn postfixed(alloc: Global, expr: Expr, postfix: Postfix) -> Result<Expr, Memory> {
+    if let Expr::Postfixed { of, mut postfixes } = expr {
+        postfixes.push(postfix)?;
+        return Ok(Expr::Postfixed { of, postfixes });
+    }
+    let of = Boxed::new(alloc, expr)?;
+    let postfixes = Items::from_vec(vec![in alloc; postfix]?);
+    Ok(Expr::Postfixed { of, postfixes })
+}
+
 /// `let`, `for`, `if`, `throw`, `at` and `paren`.
 fn control(alloc: Global, stack: &mut Vec<Expr>, word: &str) -> Result<Expr, Memory> {
     let third = boxed(alloc, stack)?;
@@ -66,10 +82,8 @@ fn control(alloc: Global, stack: &mut Vec<Expr>, word: &str) -> Result<Expr, Mem
     }
     let second = boxed(alloc, stack)?;
     if word == "at" {
-        return Ok(Expr::Index {
-            of: second,
-            at: third,
-        });
+        let at = Postfix::Index(third.into_inner());
+        return postfixed(alloc, second.into_inner(), at);
     }
     if word == "if" {
         return Ok(Expr::If {
@@ -174,10 +188,10 @@ fn marked(alloc: Global, stack: &mut Vec<Expr>, mark: &str, rest: &str) -> Resul
     match mark {
         "'" => Ok(Expr::Atom(Atom::Text(Text::new(alloc, rest)?))),
         "$" => Ok(Expr::Variable(number(rest)?)),
-        "." => Ok(Expr::Member {
-            of: boxed(alloc, stack)?,
-            name: Text::new(alloc, rest)?,
-        }),
+        "." => {
+            let name = Postfix::Member(Text::new(alloc, rest)?);
+            postfixed(alloc, last(stack)?, name)
+        }
         "@" => Ok(Expr::Source(Text::new(alloc, rest)?)),
         "~" => Ok(Expr::Promise(Text::new(alloc, rest)?)),
         "%" => Ok(Expr::Stream(Text::new(alloc, rest)?)),

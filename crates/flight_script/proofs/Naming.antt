@@ -1,8 +1,9 @@
 -- The names in a program, one after another.
-use Rattle.std.proofs.Common.{◌≡◌, ℕ, List, [], ◌∷◌, ◌++◌, refl, sym, ◌∙◌, ap, subst}
+use Rattle.std.proofs.Common.{◌≡◌, ℕ, List, [], ◌∷◌, ◌++◌, refl, sym, ◌∙◌, ap, subst, append_assoc, append-nil}
 use Rattle.std.specs.Prelude.{Result, Ok, Err, OnOk, IfErr}
 use Rattle.flight_script.specs.declared.fault.ScriptFault.{ScriptFault}
-use Rattle.flight_script.specs.Program.{Named, named_test, named_tests}
+use Rattle.flight_syntax.specs.Term.{Term, Post, named, indexed, posted, member, index}
+use Rattle.flight_script.specs.Program.{Named, names_in, names_in_posts, named_test, named_tests}
 use Rattle.flight_script.specs.Tests.{Test, AllPass, Refuses}
 use Rattle.flight_script.proofs.Passing.{all_behind, refuses_front, refuses_behind, Passed, passed_on, passed_refuses}
 
@@ -35,6 +36,13 @@ pass_last sources streams all ns ms (Err e) is h k = tt
 pub err_last : {X : Type 0} (sources streams : List (List ℕ)) (all ns ms : List Named) (r : Result X ScriptFault) → all ≡ ns ++ ms → AllPass (named_tests sources streams ns) → IfErr r (Refuses (named_tests sources streams ms)) → IfErr r (Refuses (named_tests sources streams all))
 err_last sources streams all ns ms (Ok x) is h k = tt
 err_last sources streams all ns ms (Err e) is h k = refuses_second sources streams all ns ms e is h k
+
+-- ---- an expression with its postfixes
+
+pub names_posted : (t : Term) (ps : List Post) → names_in (posted t ps) ≡ names_in t ++ names_in_posts ps
+names_posted t [] = sym (append-nil (names_in t))
+names_posted t (named n ∷ ps) = names_posted (member t n) ps
+names_posted t (indexed i ∷ ps) = names_posted (index t i) ps ∙ append_assoc (names_in t) (names_in i) (names_in_posts ps)
 
 -- ---- names that are left
 

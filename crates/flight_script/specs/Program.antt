@@ -4,7 +4,7 @@ use Rattle.std.specs.List.{flat_map}
 use Rattle.flight_syntax.specs.declared.program.Declared.{Declared}
 use Rattle.flight_syntax.specs.declared.program.Declared.TheVariants.{Server, Client, Action}
 use Rattle.flight_syntax.specs.Term as term
-use Rattle.flight_syntax.specs.Term.{Term, Terms, Props, Pairs}
+use Rattle.flight_syntax.specs.Term.{Term, Terms, Props, Pairs, Post}
 use Rattle.flight_script.specs.declared.fault.ScriptFault.TheVariants.{UnknownSource}
 use Rattle.flight_script.specs.Json.{is_among}
 use Rattle.flight_script.specs.Tests.{Test, holds}
@@ -50,6 +50,15 @@ abbrev mutual
   pub names_in_pairs : Pairs → List Named
   names_in_pairs term.no_pairs = []
   names_in_pairs (term.pair_and key value rest) = names_in key ++ (names_in value ++ names_in_pairs rest)
+
+-- the names in a postfix, and in postfixes one after another
+abbrev pub names_in_post : Post → List Named
+names_in_post (term.named name) = []
+names_in_post (term.indexed at) = names_in at
+
+abbrev pub names_in_posts : List Post → List Named
+names_in_posts [] = []
+names_in_posts (p ∷ posts) = names_in_post p ++ names_in_posts posts
 
 -- the names in a declaration
 abbrev pub names_of : Declared → List Named

@@ -1,15 +1,15 @@
 ghost use Rattle.std.specs.Prelude.{◌≡◌, ◌∷◌, [], true, map, OnOk, IfErr};
 ghost use Rattle.std.specs.List.{flat_map};
 ghost use Rattle.flight_value.specs.Graph.{Ascend};
-ghost use Rattle.flight_syntax.specs.Term.{term, prop, pair, terms_of, props_of, pairs_of};
+ghost use Rattle.flight_syntax.specs.Term.{term, prop, pair, post, terms_of, props_of, pairs_of};
 ghost use Rattle.flight_script.specs.Json.{is_among};
-ghost use Rattle.flight_script.specs.Program.{names_in, names_in_terms, names_in_props, names_in_pairs, names_of, named_tests};
+ghost use Rattle.flight_script.specs.Program.{names_in, names_in_terms, names_in_props, names_in_pairs, names_in_post, names_in_posts, names_of, named_tests};
 ghost use Rattle.flight_script.specs.Tests.{holds, AllPass, Refuses};
 ghost use Rattle.flight_script.specs.declared.fault.ScriptFault.TheVariants as fault;
 
 use crate::fault::ScriptFault;
 use crate::names::number_of;
-use flight_syntax::{Declared, Expr, PairExpr, PropExpr};
+use flight_syntax::{Declared, Expr, PairExpr, Postfix, PropExpr};
 use std::alloc::Global;
 
 /// Asks that declarations name only these sources and streams, in order of their text. The names ascend.
@@ -73,10 +73,9 @@ fn check(alloc: Global, expr: &Expr, sources: &[&str], streams: &[&str]) -> Resu
             check(alloc, give.get(), sources, streams)
         }
         Expr::Throw(value) => check(alloc, value.get(), sources, streams),
-        Expr::Member { of, .. } => check(alloc, of.get(), sources, streams),
-        Expr::Index { of, at } => {
+        Expr::Postfixed { of, postfixes } => {
             check(alloc, of.get(), sources, streams)?;
-            check(alloc, at.get(), sources, streams)
+            check_postfixes(alloc, postfixes.as_slice(), sources, streams)
         }
         Expr::Atom(_) | Expr::Variable(_) | Expr::Client(_) => Ok(()),
         Expr::Array(items) => check_items(alloc, items.as_slice(), sources, streams),
@@ -123,6 +122,44 @@ fn check_items(
         check(alloc, item, sources, streams)?;
     }
     Ok(())
+}
+
+/// Asks it of postfixes.
+#[cycle(check)]
+fn check_postfixes(
+    alloc: Global,
+    postfixes: &[Postfix],
+    sources: &[&str],
+    streams: &[&str],
+) -> Result<(), ScriptFault>
+    requires sources { Ascend (map (λ n. n.now) sources.now) }
+    requires streams { Ascend (map (λ n. n.now) streams.now) }
+    ensures pass { OnOk result (AllPass (named_tests (map (λ n. n.now) sources.now) (map (λ n. n.now) streams.now) (names_in_posts (map post postfixes.now)))) }
+    ensures err { IfErr result (Refuses (named_tests (map (λ n. n.now) sources.now) (map (λ n. n.now) streams.now) (names_in_posts (map post postfixes.now)))) }
+{
+    for postfix in postfixes {
+        check_postfix(alloc, postfix, sources, streams)?;
+    }
+    Ok(())
+}
+
+/// Asks it of a postfix.
+#[cycle(check)]
+fn check_postfix(
+    alloc: Global,
+    postfix: &Postfix,
+    sources: &[&str],
+    streams: &[&str],
+) -> Result<(), ScriptFault>
+    requires sources { Ascend (map (λ n. n.now) sources.now) }
+    requires streams { Ascend (map (λ n. n.now) streams.now) }
+    ensures pass { OnOk result (AllPass (named_tests (map (λ n. n.now) sources.now) (map (λ n. n.now) streams.now) (names_in_post (post postfix.now)))) }
+    ensures err { IfErr result (Refuses (named_tests (map (λ n. n.now) sources.now) (map (λ n. n.now) streams.now) (names_in_post (post postfix.now)))) }
+{
+    match postfix {
+        Postfix::Member(_) => Ok(()),
+        Postfix::Index(at) => check(alloc, at, sources, streams),
+    }
 }
 
 /// Asks it of properties.

@@ -1,21 +1,26 @@
-use Rattle.std.proofs.Common.{subst, sym, ap, ◌∙◌, ◌≡◌, [], drop, map, ◌∷◌, ◌++◌, ◌+◌, ◌<◌, arith, append_assoc}
-use Rattle.std.proofs.lemmas.List.{map-append}
+use Rattle.std.proofs.Common.{subst, sym, ap, ◌∙◌, ◌≡◌, [], drop, map, ◌∷◌, ◌++◌, ◌+◌, ◌*◌, ◌<◌, max, length, arith, append_assoc}
+use Rattle.std.proofs.lemmas.List.{map-append, length-map}
 use Rattle.std.proofs.lemmas.Result.{err_from_is_err_and}
-use Rattle.flight_syntax.specs.Term.{term, prop, pair, terms_of, props_of, pairs_of, for_in, binary}
-use Rattle.flight_syntax.proofs.Terms.{term-For, term-Binary}
+use denote.Param.Weighed.{most}
+use Rattle.flight_syntax.specs.declared.expr.Expr as expr
+use Rattle.flight_syntax.specs.declared.expr.Expr.{size-Expr}
+use Rattle.flight_syntax.specs.declared.expr.Postfix.{size-Postfix}
+use Rattle.flight_syntax.specs.Term.{term, prop, pair, post, terms_of, props_of, pairs_of, for_in, binary, posted}
+use Rattle.flight_syntax.proofs.Terms.{term-For, term-Binary, term-Postfixed}
 use Rattle.flight_render.specs.Run.{gave, pay, ends}
 use Rattle.flight_render.specs.Eval.{eval, each, eval_all, eval_props, eval_pairs, eval_attrs}
 use Rattle.flight_eval.specs.Gives.{work_of, context_of, Stopped, Gives}
 use Rattle.flight_eval.specs.Object.{pair_of, attributes_of}
-use Rattle.flight_eval.specs.Productions.{charge, no_attributes}
-use Rattle.flight_eval.proofs.Stopped.{over_charged, let_stopped, if_stopped, and_stopped, or_stopped, for_stopped, index_stopped, both_stopped, element_stopped}
-use Rattle.flight_eval.proofs.Steps.{for_begun, for_given, for_slots, binary_begun, each_stop, all_stop, props_stop, props_step, key_stop, value_stop, pairs_step, attr_stop, named_stop, attrs_step, inside_stop}
+use Rattle.flight_eval.specs.Productions.{charge, no_attributes, posts_run}
+use Rattle.flight_eval.proofs.Charges.{charge-For, charge-Binary, charge-Postfixed, size-Postfixed}
+use Rattle.flight_eval.proofs.Stopped.{over_charged, let_stopped, if_stopped, and_stopped, or_stopped, for_stopped, posted_stopped, number_stopped, both_stopped, element_stopped}
+use Rattle.flight_eval.proofs.Steps.{for_begun, for_given, for_slots, binary_begun, posted_begun, posts_stop, posts_step, each_stop, all_stop, props_stop, props_step, key_stop, value_stop, pairs_step, attr_stop, named_stop, attrs_step, inside_stop}
 use Rattle.flight_eval.proofs.eval.+evaluation.Goals as goal
 
 pub eval-returns-in_err-pay-clause-gives : goal.eval-returns-in_err-pay-clause-gives
 eval-returns-in_err-pay-clause-gives t c =
     let p = err_from_is_err_and c.from_residual.result c.from_residual.ensures.1 in
-    rw (p.1, p.2) (rw c.in_err-pay.ensures.err.0 (over_charged c.args.place.now.fuel (context_of c.args.place.now) (term c.args.e.now) c.args.env.now.items (work_of c.args.work.now) (work_of c.pay.new.work) (subst (λ z. c.args.place.now.fuel < c.args.work.now.cost + z) c.charge.ensures c.in_err-pay.ensures.err.1)))
+    rw (p.1, p.2) (rw c.in_err-pay.ensures.err.0 (over_charged c.args.place.now.fuel (context_of c.args.place.now) (term c.args.e.now) c.args.env.now.items (work_of c.args.work.now) (work_of c.pay.new.work) c.charge.result c.charge.ensures.least c.in_err-pay.ensures.err.1))
 
 pub eval-returns-in-For-clause-gives : goal.eval-returns-in-For-clause-gives
 eval-returns-in-For-clause-gives t c =
@@ -23,7 +28,7 @@ eval-returns-in-For-clause-gives t c =
     let each_one = c.get-in-For-2.result.now in
     let is = ap term c.in-For.is ∙ term-For c.in-For.name c.in-For.over c.in-For.give in
     let same = is ∙ ap (λ z. for_in c.in-For.name (term z) (term c.in-For.give)) (sym c.get-in-For.ensures) ∙ ap (λ z. for_in c.in-For.name (term over) (term z)) (sym c.get-in-For-2.ensures) in
-    let paid = c.in_ok-pay.ensures.ok.0 ∙ ap (λ z. pay z (work_of c.args.work.now)) (c.charge.ensures ∙ ap charge is) in
+    let paid = c.in_ok-pay.ensures.ok.0 ∙ ap (λ z. pay z (work_of c.args.work.now)) (c.charge.ensures.is ∙ (ap charge c.in-For.is ∙ charge-For c.in-For.name c.in-For.over c.in-For.give)) in
     subst (λ z. Gives (λ t. t) c.args.place.now.fuel (eval (context_of c.args.place.now) z c.args.env.now.items (work_of c.args.work.now)) c.eval_for.result (work_of c.eval_for.new.work)) (sym same)
     (for_begun c.args.place.now.fuel (context_of c.args.place.now) c.in-For.name (term over) (term each_one) c.args.env.now.items (work_of c.args.work.now) (work_of c.pay.new.work) c.eval_for.result (work_of c.eval_for.new.work) paid c.eval_for.ensures.gives)
 
@@ -33,9 +38,29 @@ eval-returns-in-Binary-clause-gives t c =
     let right = c.get-in-Binary-2.result.now in
     let is = ap term c.in-Binary.is ∙ term-Binary c.in-Binary.op c.in-Binary.left c.in-Binary.right in
     let same = is ∙ ap (λ z. binary c.in-Binary.op (term z) (term c.in-Binary.right)) (sym c.get-in-Binary.ensures) ∙ ap (λ z. binary c.in-Binary.op (term left) (term z)) (sym c.get-in-Binary-2.ensures) in
-    let paid = c.in_ok-pay.ensures.ok.0 ∙ ap (λ z. pay z (work_of c.args.work.now)) (c.charge.ensures ∙ ap charge is) in
+    let paid = c.in_ok-pay.ensures.ok.0 ∙ ap (λ z. pay z (work_of c.args.work.now)) (c.charge.ensures.is ∙ (ap charge c.in-Binary.is ∙ charge-Binary c.in-Binary.op c.in-Binary.left c.in-Binary.right)) in
     subst (λ z. Gives (λ t. t) c.args.place.now.fuel (eval (context_of c.args.place.now) z c.args.env.now.items (work_of c.args.work.now)) c.eval_operator.result (work_of c.eval_operator.new.work)) (sym same)
     (binary_begun c.args.place.now.fuel (context_of c.args.place.now) c.in-Binary.op (term left) (term right) c.args.env.now.items (work_of c.args.work.now) (work_of c.pay.new.work) c.eval_operator.result (work_of c.eval_operator.new.work) paid c.eval_operator.ensures.gives)
+
+pub eval-returns-in-Postfixed-clause-gives : goal.eval-returns-in-Postfixed-clause-gives
+eval-returns-in-Postfixed-clause-gives t c =
+    let of = c.get-in-Postfixed.result.now in
+    let posts = c.as_slice.result.now in
+    let is = ap term c.in-Postfixed.is ∙ term-Postfixed c.in-Postfixed.of c.in-Postfixed.postfixes in
+    let same = is ∙ (ap (λ z. posted (term z) (map post c.in-Postfixed.postfixes)) (sym c.get-in-Postfixed.ensures) ∙ ap (λ z. posted (term of) (map post z)) (sym c.as_slice.ensures)) in
+    let charged = c.charge.ensures.is ∙ (ap charge c.in-Postfixed.is ∙ (charge-Postfixed c.in-Postfixed.of c.in-Postfixed.postfixes ∙ (ap length (sym c.as_slice.ensures) ∙ sym (length-map posts post)))) in
+    let paid = c.in_ok-pay.ensures.ok.0 ∙ ap (λ z. pay z (work_of c.args.work.now)) charged in
+    subst (λ z. Gives (λ t. t) c.args.place.now.fuel (eval (context_of c.args.place.now) z c.args.env.now.items (work_of c.args.work.now)) c.eval_postfixed.result (work_of c.eval_postfixed.new.work)) (sym same)
+    (posted_begun c.args.place.now.fuel (context_of c.args.place.now) (term of) (map post posts) c.args.env.now.items (work_of c.args.work.now) (work_of c.pay.new.work) c.eval_postfixed.result (work_of c.eval_postfixed.new.work) paid c.eval_postfixed.ensures.gives)
+
+pub eval-eval_postfixed-requires : goal.eval-eval_postfixed-requires
+eval-eval_postfixed-requires t c =
+    let of = c.in-Postfixed.of in
+    let posts = c.in-Postfixed.postfixes in
+    let below = subst (λ z. 3 * max (size-Expr c.get-in-Postfixed.result.now) (most size-Postfix c.as_slice.result.now) + 2 < 3 * size-Expr z) (sym c.in-Postfixed.is)
+    (subst (λ z. 3 * max (size-Expr z) (most size-Postfix c.as_slice.result.now) + 2 < 3 * size-Expr (expr.Postfixed of posts)) (sym c.get-in-Postfixed.ensures)
+    (subst (λ z. 3 * max (size-Expr of) (most size-Postfix z) + 2 < 3 * size-Expr (expr.Postfixed of posts)) (sym c.as_slice.ensures) (size-Postfixed of posts))) in
+    (omega (arith, c.decreases, below), c.in_ok-pay.ensures.ok.1)
 
 pub eval_let-returns-in_err-bound-clause-gives : goal.eval_let-returns-in_err-bound-clause-gives
 eval_let-returns-in_err-bound-clause-gives t c =
@@ -62,10 +87,15 @@ eval_for-returns-in_err-array-clause-gives t c =
     let p = err_from_is_err_and c.from_residual.result c.from_residual.ensures.1 in
     rw (p.1, p.2) (for_stopped c.args.place.now.fuel (context_of c.args.place.now) c.in_err-array.field-0.0 (work_of c.eval.new.work) (term c.args.over.now) (term c.args.give.now) c.args.env.now.items (work_of c.args.work.now) c.in_err-array.ensures.gives)
 
-pub eval_index-returns-in_err-array-clause-gives : goal.eval_index-returns-in_err-array-clause-gives
-eval_index-returns-in_err-array-clause-gives t c =
+pub eval_postfixed-returns-in_err-value-clause-gives : goal.eval_postfixed-returns-in_err-value-clause-gives
+eval_postfixed-returns-in_err-value-clause-gives t c =
     let p = err_from_is_err_and c.from_residual.result c.from_residual.ensures.1 in
-    rw (p.1, p.2) (index_stopped c.args.place.now.fuel (context_of c.args.place.now) c.in_err-array.field-0.0 (work_of c.eval.new.work) (term c.args.of.now) (term c.args.at.now) c.args.env.now.items (work_of c.args.work.now) c.in_err-array.ensures.gives)
+    rw (p.1, p.2) (posted_stopped c.args.place.now.fuel (context_of c.args.place.now) c.in_err-value.field-0.0 (work_of c.eval.new.work) (term c.args.of.now) (map post c.args.postfixes.now) c.args.env.now.items (work_of c.args.work.now) c.in_err-value.ensures.gives)
+
+pub eval_index-returns-in_err-number-clause-gives : goal.eval_index-returns-in_err-number-clause-gives
+eval_index-returns-in_err-number-clause-gives t c =
+    let p = err_from_is_err_and c.from_residual.result c.from_residual.ensures.1 in
+    rw (p.1, p.2) (number_stopped c.args.place.now.fuel (context_of c.args.place.now) c.in_err-number.field-0.0 (work_of c.eval.new.work) c.args.array.now (term c.args.at.now) c.args.env.now.items (work_of c.args.work.now) c.in_err-number.ensures.gives)
 
 pub eval_both-returns-in_err-x-clause-gives : goal.eval_both-returns-in_err-x-clause-gives
 eval_both-returns-in_err-x-clause-gives t c =
@@ -109,6 +139,21 @@ eval_all-returns-in_err-value-clause-gives t c =
     let p = err_from_is_err_and c.from_residual.result c.from_residual.ensures.1 in
     rw (p.1, p.2, ← c.loop-item.invariant.0)
     (all_stop c.args.place.now.fuel (context_of c.args.place.now) c.in_err-value.field-0.0 (work_of c.eval.new.work) c.args.items.now c.loop-item.item-index c.item-item.result c.loop-item.env.items c.loop-item.slots.items (work_of c.loop-item.work) (omega arith) c.item-item.is c.in_err-value.ensures.gives)
+
+pub eval_postfixes-returns-in_err-value-clause-gives : goal.eval_postfixes-returns-in_err-value-clause-gives
+eval_postfixes-returns-in_err-value-clause-gives t c =
+    let p = err_from_is_err_and c.from_residual.result c.from_residual.ensures.1 in
+    rw (p.1, p.2, ← c.loop-postfix.invariant.0)
+    (posts_stop c.args.place.now.fuel (context_of c.args.place.now) c.in_err-value.field-0.0 (work_of c.eval_postfix.new.work) c.args.postfixes.now c.loop-postfix.postfix-index c.postfix-item.result c.loop-postfix.env.items c.loop-postfix.value (work_of c.loop-postfix.work) (omega arith) c.postfix-item.is c.in_err-value.ensures.gives)
+
+pub eval_postfixes-loop-postfix-preserved : goal.eval_postfixes-loop-postfix-preserved
+eval_postfixes-loop-postfix-preserved t c = (
+  ap (λ z. posts_run (context_of c.args.place.now) (map post (drop (c.loop-postfix.postfix-index + 1) c.args.postfixes.now)) z c.in_ok-value.value (work_of c.eval_postfix.new.work)) c.in_ok-value.ensures.env
+      ∙ posts_step (context_of c.args.place.now) c.args.postfixes.now c.loop-postfix.postfix-index c.postfix-item.result c.loop-postfix.value c.in_ok-value.value c.loop-postfix.env.items (work_of c.loop-postfix.work) (work_of c.eval_postfix.new.work) (omega arith) c.postfix-item.is c.in_ok-value.ensures.gives.0
+      ∙ c.loop-postfix.invariant.0,
+  c.in_ok-value.ensures.gives.1,
+  c.in_ok-value.ensures.env ∙ c.loop-postfix.invariant.2,
+)
 
 pub eval_props-returns-in_err-value-clause-gives : goal.eval_props-returns-in_err-value-clause-gives
 eval_props-returns-in_err-value-clause-gives t c =

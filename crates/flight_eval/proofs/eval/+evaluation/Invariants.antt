@@ -1,13 +1,14 @@
 use Rattle.std.proofs.Common.{◌≡◌, ◌≤◌, ◌+◌, ◌*◌, ◌++◌, ◌∷◌, map, max, drop, []}
 use denote.Param.Weighed.{most}
-use Rattle.flight_syntax.specs.Term.{term, prop, pair, terms_of, props_of, pairs_of}
+use Rattle.flight_syntax.specs.Term.{term, prop, pair, post, terms_of, props_of, pairs_of}
 use Rattle.flight_syntax.specs.declared.expr.Expr.{size-Expr}
 use Rattle.flight_syntax.specs.declared.expr.PropExpr.{size-PropExpr}
 use Rattle.flight_syntax.specs.declared.expr.PairExpr.{size-PairExpr}
+use Rattle.flight_syntax.specs.declared.expr.Postfix.{size-Postfix}
 use Rattle.flight_render.specs.Eval.{eval, eval_all, eval_props, eval_pairs, eval_attrs, each}
 use Rattle.flight_eval.specs.Gives.{work_of, context_of}
 use Rattle.flight_eval.specs.Object.{pair_of, attributes_of}
-use Rattle.flight_eval.specs.Productions.{no_attributes}
+use Rattle.flight_eval.specs.Productions.{no_attributes, posts_run}
 use Rattle.flight_eval.proofs.eval.+evaluation.Given as goal
 
 abbrev pub decreases-eval : goal.decreases-eval
@@ -25,8 +26,17 @@ decreases-eval_for l = 3 * max (size-Expr l.over.now) (size-Expr l.give.now) + 2
 abbrev pub decreases-eval_each : goal.decreases-eval_each
 decreases-eval_each l = 3 * size-Expr l.give.now + 1
 
+abbrev pub decreases-eval_postfixed : goal.decreases-eval_postfixed
+decreases-eval_postfixed l = 3 * max (size-Expr l.of.now) (most size-Postfix l.postfixes.now) + 2
+
+abbrev pub decreases-eval_postfixes : goal.decreases-eval_postfixes
+decreases-eval_postfixes l = 3 * most size-Postfix l.postfixes.now + 1
+
+abbrev pub decreases-eval_postfix : goal.decreases-eval_postfix
+decreases-eval_postfix l = 3 * size-Postfix l.postfix.now
+
 abbrev pub decreases-eval_index : goal.decreases-eval_index
-decreases-eval_index l = 3 * max (size-Expr l.of.now) (size-Expr l.at.now) + 1
+decreases-eval_index l = 3 * size-Expr l.at.now + 1
 
 abbrev pub decreases-eval_and : goal.decreases-eval_and
 decreases-eval_and l = 3 * max (size-Expr l.left.now) (size-Expr l.right.now) + 1
@@ -58,6 +68,11 @@ decreases-eval_attrs l = 3 * most size-PropExpr l.attrs.now + 1
 abbrev pub invariant-eval_all-loop-item : goal.invariant-eval_all-loop-item
 invariant-eval_all-loop-item l =
     (eval_all (context_of l.place) (terms_of (map term (drop l.item-index l.items))) l.env.items l.slots.items (work_of l.work) ≡ eval_all (context_of l.place) (terms_of (map term l.items)) l.fn.env.items [] (work_of l.fn.work))
+    × (l.work.cost ≤ l.place.fuel) × (l.env.items ≡ l.fn.env.items)
+
+abbrev pub invariant-eval_postfixes-loop-postfix : goal.invariant-eval_postfixes-loop-postfix
+invariant-eval_postfixes-loop-postfix l =
+    (posts_run (context_of l.place) (map post (drop l.postfix-index l.postfixes)) l.env.items l.value (work_of l.work) ≡ posts_run (context_of l.place) (map post l.postfixes) l.fn.env.items l.fn.value (work_of l.fn.work))
     × (l.work.cost ≤ l.place.fuel) × (l.env.items ≡ l.fn.env.items)
 
 abbrev pub invariant-eval_pairs-loop-pair : goal.invariant-eval_pairs-loop-pair

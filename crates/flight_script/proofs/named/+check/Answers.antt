@@ -1,11 +1,11 @@
 use Rattle.std.proofs.Common.{map, drop, ◌+◌, ◌++◌, subst, ◌≡◌, ◌∙◌, ap, refl, OnOk, IfErr}
 use Rattle.std.proofs.lemmas.Result.{err_from_is_err_and}
-use Rattle.flight_syntax.specs.Term.{term, prop, pair, terms_of, props_of, pairs_of}
-use Rattle.flight_syntax.proofs.Terms.{term-Let, term-If, term-For, term-Index, term-Binary, term-Element, prop-value, pair-value}
-use Rattle.flight_script.specs.Program.{names_in, names_in_terms, names_in_props, names_in_pairs, named_tests}
+use Rattle.flight_syntax.specs.Term.{term, prop, pair, post, terms_of, props_of, pairs_of}
+use Rattle.flight_syntax.proofs.Terms.{term-Let, term-If, term-For, term-Postfixed, term-Binary, term-Element, prop-value, pair-value}
+use Rattle.flight_script.specs.Program.{names_in, names_in_terms, names_in_props, names_in_pairs, names_in_post, names_in_posts, named_tests}
 use Rattle.flight_script.specs.Tests.{AllPass, Refuses}
 use Rattle.flight_script.proofs.Built.{map_drop}
-use Rattle.flight_script.proofs.Naming.{first_refuses, refuses_first, refuses_second, pass_last, err_last, named_on, named_refuses}
+use Rattle.flight_script.proofs.Naming.{first_refuses, refuses_first, refuses_second, pass_last, err_last, named_on, named_refuses, names_posted}
 use Rattle.flight_script.proofs.named.+check.Goals as goal
 
 pub check-returns-in_err-check-in-Let-clause-err : goal.check-returns-in_err-check-in-Let-clause-err
@@ -64,33 +64,33 @@ check-returns-in_ok-check-in-For-clause-err t c =
     let second = subst (λ x. IfErr c.check-in-For-2.result (Refuses (named_tests ss ts (names_in (term x))))) c.get-in-For-2.ensures c.check-in-For-2.ensures.err in
     err_last ss ts (names_in (term c.args.expr.now)) (names_in (term c.in-For.over)) (names_in (term c.in-For.give)) c.check-in-For-2.result is first second
 
-pub check-returns-in_err-check-in-Index-clause-err : goal.check-returns-in_err-check-in-Index-clause-err
-check-returns-in_err-check-in-Index-clause-err t c =
-    let p = err_from_is_err_and c.from_residual-in_err-check-in-Index.result c.from_residual-in_err-check-in-Index.ensures.1 in
+pub check-returns-in_err-check-in-Postfixed-clause-err : goal.check-returns-in_err-check-in-Postfixed-clause-err
+check-returns-in_err-check-in-Postfixed-clause-err t c =
+    let p = err_from_is_err_and c.from_residual-in_err-check-in-Postfixed.result c.from_residual-in_err-check-in-Postfixed.ensures.1 in
     let ss = map (λ n. n.now) c.args.sources.now in
     let ts = map (λ n. n.now) c.args.streams.now in
-    let e = c.in_err-check-in-Index.field-0.0 in
-    let is : names_in (term c.args.expr.now) ≡ names_in (term c.in-Index.of) ++ names_in (term c.in-Index.at) = ap (λ x. names_in (term x)) c.in-Index.is ∙ ap names_in (term-Index c.in-Index.of c.in-Index.at) in
-    let refused = subst (λ x. Refuses (named_tests ss ts (names_in (term x))) e) c.get-in-Index.ensures c.in_err-check-in-Index.ensures.err in
-    rw (p.1, p.2) (refuses_first ss ts (names_in (term c.args.expr.now)) (names_in (term c.in-Index.of)) (names_in (term c.in-Index.at)) e is refused)
+    let e = c.in_err-check-in-Postfixed.field-0.0 in
+    let is : names_in (term c.args.expr.now) ≡ names_in (term c.in-Postfixed.of) ++ names_in_posts (map post c.in-Postfixed.postfixes) = ap (λ x. names_in (term x)) c.in-Postfixed.is ∙ (ap names_in (term-Postfixed c.in-Postfixed.of c.in-Postfixed.postfixes) ∙ names_posted (term c.in-Postfixed.of) (map post c.in-Postfixed.postfixes)) in
+    let refused = subst (λ x. Refuses (named_tests ss ts (names_in (term x))) e) c.get-in-Postfixed.ensures c.in_err-check-in-Postfixed.ensures.err in
+    rw (p.1, p.2) (refuses_first ss ts (names_in (term c.args.expr.now)) (names_in (term c.in-Postfixed.of)) (names_in_posts (map post c.in-Postfixed.postfixes)) e is refused)
 
-pub check-returns-in_ok-check-in-Index-clause-pass : goal.check-returns-in_ok-check-in-Index-clause-pass
-check-returns-in_ok-check-in-Index-clause-pass t c =
+pub check-returns-in_ok-check-in-Postfixed-clause-pass : goal.check-returns-in_ok-check-in-Postfixed-clause-pass
+check-returns-in_ok-check-in-Postfixed-clause-pass t c =
     let ss = map (λ n. n.now) c.args.sources.now in
     let ts = map (λ n. n.now) c.args.streams.now in
-    let is : names_in (term c.args.expr.now) ≡ names_in (term c.in-Index.of) ++ names_in (term c.in-Index.at) = ap (λ x. names_in (term x)) c.in-Index.is ∙ ap names_in (term-Index c.in-Index.of c.in-Index.at) in
-    let first = subst (λ x. AllPass (named_tests ss ts (names_in (term x)))) c.get-in-Index.ensures c.in_ok-check-in-Index.ensures.pass in
-    let second = subst (λ x. OnOk c.check-in-Index-2.result (AllPass (named_tests ss ts (names_in (term x))))) c.get-in-Index-2.ensures c.check-in-Index-2.ensures.pass in
-    pass_last ss ts (names_in (term c.args.expr.now)) (names_in (term c.in-Index.of)) (names_in (term c.in-Index.at)) c.check-in-Index-2.result is first second
+    let is : names_in (term c.args.expr.now) ≡ names_in (term c.in-Postfixed.of) ++ names_in_posts (map post c.in-Postfixed.postfixes) = ap (λ x. names_in (term x)) c.in-Postfixed.is ∙ (ap names_in (term-Postfixed c.in-Postfixed.of c.in-Postfixed.postfixes) ∙ names_posted (term c.in-Postfixed.of) (map post c.in-Postfixed.postfixes)) in
+    let first = subst (λ x. AllPass (named_tests ss ts (names_in (term x)))) c.get-in-Postfixed.ensures c.in_ok-check-in-Postfixed.ensures.pass in
+    let second = subst (λ xs. OnOk c.check_postfixes.result (AllPass (named_tests ss ts (names_in_posts (map post xs))))) c.as_slice.ensures c.check_postfixes.ensures.pass in
+    pass_last ss ts (names_in (term c.args.expr.now)) (names_in (term c.in-Postfixed.of)) (names_in_posts (map post c.in-Postfixed.postfixes)) c.check_postfixes.result is first second
 
-pub check-returns-in_ok-check-in-Index-clause-err : goal.check-returns-in_ok-check-in-Index-clause-err
-check-returns-in_ok-check-in-Index-clause-err t c =
+pub check-returns-in_ok-check-in-Postfixed-clause-err : goal.check-returns-in_ok-check-in-Postfixed-clause-err
+check-returns-in_ok-check-in-Postfixed-clause-err t c =
     let ss = map (λ n. n.now) c.args.sources.now in
     let ts = map (λ n. n.now) c.args.streams.now in
-    let is : names_in (term c.args.expr.now) ≡ names_in (term c.in-Index.of) ++ names_in (term c.in-Index.at) = ap (λ x. names_in (term x)) c.in-Index.is ∙ ap names_in (term-Index c.in-Index.of c.in-Index.at) in
-    let first = subst (λ x. AllPass (named_tests ss ts (names_in (term x)))) c.get-in-Index.ensures c.in_ok-check-in-Index.ensures.pass in
-    let second = subst (λ x. IfErr c.check-in-Index-2.result (Refuses (named_tests ss ts (names_in (term x))))) c.get-in-Index-2.ensures c.check-in-Index-2.ensures.err in
-    err_last ss ts (names_in (term c.args.expr.now)) (names_in (term c.in-Index.of)) (names_in (term c.in-Index.at)) c.check-in-Index-2.result is first second
+    let is : names_in (term c.args.expr.now) ≡ names_in (term c.in-Postfixed.of) ++ names_in_posts (map post c.in-Postfixed.postfixes) = ap (λ x. names_in (term x)) c.in-Postfixed.is ∙ (ap names_in (term-Postfixed c.in-Postfixed.of c.in-Postfixed.postfixes) ∙ names_posted (term c.in-Postfixed.of) (map post c.in-Postfixed.postfixes)) in
+    let first = subst (λ x. AllPass (named_tests ss ts (names_in (term x)))) c.get-in-Postfixed.ensures c.in_ok-check-in-Postfixed.ensures.pass in
+    let second = subst (λ xs. IfErr c.check_postfixes.result (Refuses (named_tests ss ts (names_in_posts (map post xs))))) c.as_slice.ensures c.check_postfixes.ensures.err in
+    err_last ss ts (names_in (term c.args.expr.now)) (names_in (term c.in-Postfixed.of)) (names_in_posts (map post c.in-Postfixed.postfixes)) c.check_postfixes.result is first second
 
 pub check-returns-in_err-check-in-Binary-clause-err : goal.check-returns-in_err-check-in-Binary-clause-err
 check-returns-in_err-check-in-Binary-clause-err t c =
@@ -217,6 +217,35 @@ check_items-returns-in_err-check-clause-err t c =
     let all = named_tests ss ts (names_in_terms (terms_of (map term xs))) in
     let more = ap (λ ys. names_in_terms (terms_of ys)) (map_drop term xs i v c.loop-item-test.true c.item-item.is) in
     rw (p.1, p.2) (named_refuses ss ts all left (names_in (term v)) rest c.in_err-check.field-0.0 l.invariant more c.in_err-check.ensures.err)
+
+pub check_postfixes-loop-postfix-preserved : goal.check_postfixes-loop-postfix-preserved
+check_postfixes-loop-postfix-preserved t c =
+    let ss = map (λ n. n.now) c.args.sources.now in
+    let ts = map (λ n. n.now) c.args.streams.now in
+    let l = c.loop-postfix in
+    let xs = c.args.postfixes.now in
+    let i = l.postfix-index in
+    let v = c.postfix-item.result in
+    let rest = names_in_posts (map post (drop (i + 1) xs)) in
+    let left = names_in_posts (map post (drop i xs)) in
+    let all = named_tests ss ts (names_in_posts (map post xs)) in
+    let more = ap names_in_posts (map_drop post xs i v c.loop-postfix-test.true c.postfix-item.is) in
+    named_on ss ts all left (names_in_post (post v)) rest l.invariant more c.in_ok-check_postfix.ensures.pass
+
+pub check_postfixes-returns-in_err-check_postfix-clause-err : goal.check_postfixes-returns-in_err-check_postfix-clause-err
+check_postfixes-returns-in_err-check_postfix-clause-err t c =
+    let p = err_from_is_err_and c.from_residual.result c.from_residual.ensures.1 in
+    let ss = map (λ n. n.now) c.args.sources.now in
+    let ts = map (λ n. n.now) c.args.streams.now in
+    let l = c.loop-postfix in
+    let xs = c.args.postfixes.now in
+    let i = l.postfix-index in
+    let v = c.postfix-item.result in
+    let rest = names_in_posts (map post (drop (i + 1) xs)) in
+    let left = names_in_posts (map post (drop i xs)) in
+    let all = named_tests ss ts (names_in_posts (map post xs)) in
+    let more = ap names_in_posts (map_drop post xs i v c.loop-postfix-test.true c.postfix-item.is) in
+    rw (p.1, p.2) (named_refuses ss ts all left (names_in_post (post v)) rest c.in_err-check_postfix.field-0.0 l.invariant more c.in_err-check_postfix.ensures.err)
 
 pub check_props-loop-prop-preserved : goal.check_props-loop-prop-preserved
 check_props-loop-prop-preserved t c =
