@@ -1,12 +1,7 @@
 //! Programs of tests, spelled as words, each behind the parts of its expression.
 
-<<<<<<< HEAD
-use flight_syntax::{Expr, Op, PairExpr, PropExpr, Tag};
-use flight_value::{Atom, Constant, Memory, Text, Wide};
-=======
 use flight_syntax::{Expr, Op, PairExpr, Postfix, PropExpr, Tag};
-use flight_value::{Atom, Constant, Memory, Text};
->>>>>>> 3de318c (Not proved yet: flight_eval and flight_script over a list of postfixes; conformance and documents)
+use flight_value::{Atom, Constant, Memory, Text, Wide};
 use sqlite_items::{Boxed, Items};
 use std::alloc::Global;
 
