@@ -11,3 +11,4 @@ pub mod Drawings
 pub mod Handled
 pub mod Labels
 pub mod Whole
+pub mod Called

@@ -16,6 +16,8 @@ mod sequential;
 mod shape;
 mod source;
 mod task;
+#[cfg(test)]
+mod tests;
 mod total;
 mod walk;
 
