@@ -1,5 +1,6 @@
 -- The ground of a call over no data: an action of two parameters that adds them, and two numbers.
-use Rattle.std.proofs.Common.{◌≡◌, ◌<◌, ℕ, List, [], ◌∷◌, Some, refl, sym, subst, ap, arith, pos, absurd, length}
+use Rattle.std.proofs.Common.{◌≡◌, ◌<◌, ℕ, List, [], ◌∷◌, Some, refl, sym, subst, ap, arith, pos, length, Bool, true, false, nat_eq}
+use Rattle.std.proofs.lemmas.Bool.{false≢true}
 use Rattle.std.specs.Prelude.{codes, slice_index, All}
 use Rattle.std.specs.List.{AllByRecursion}
 use Rattle.std.specs.List.Sorted.{IsStrictlySortedBy}
@@ -56,37 +57,43 @@ no_script = record {
     once = λ i j d h k. absurd (omega (arith, k));
   }
 
-slot_fits : (z : ℕ) → z < 10 → IsValidSlot 1 (slot.Atom (value.Whole (pos z)))
-slot_fits z h = (tt, tt)
+abbrev numbers : List Slot
+numbers = slot.Atom (value.Whole (pos 2)) ∷ slot.Atom (value.Whole (pos 3)) ∷ []
+
+numbers_valid : All (IsValidSlot 1) numbers
+numbers_valid = All-from_recursion (IsValidSlot 1) numbers ((omega arith, omega arith), ((omega arith, omega arith), tt))
+
+numbers_argued : All IsArgumentSlot numbers
+numbers_argued = All-from_recursion IsArgumentSlot numbers (tt, (tt, tt))
+
+array_valid : IsValidNode two_and_three (node.Array numbers)
+array_valid = record { few = omega arith; slots = numbers_valid; kind = tt }
 
 arguments_valid : IsValid (record { root = slot.Node 0; nodes = two_and_three })
 arguments_valid = record {
     few = omega arith;
     valid_root = omega arith;
-    each = All-from_recursion (IsValidNode two_and_three) two_and_three (record {
-        few = omega arith;
-        slots = All-from_recursion (IsValidSlot 1) _ ((omega arith, omega arith), ((omega arith, omega arith), tt));
-        kind = tt;
-      }, tt);
+    each = All-from_recursion (IsValidNode two_and_three) two_and_three (array_valid, tt);
   }
 
 arguments : AreArguments 2 (record { root = slot.Node 0; nodes = two_and_three })
 arguments = record {
     valid = arguments_valid;
-    nodes = All-from_recursion (λ n. IsArgumentKind n × All IsArgumentSlot (slots_of n)) two_and_three ((tt, All-from_recursion IsArgumentSlot _ (tt, (tt, tt))), tt);
+    nodes = All-from_recursion (λ n. IsArgumentKind n × All IsArgumentSlot (slots_of n)) two_and_three ((tt, numbers_argued), tt);
     root = 0;
     is_root = refl;
-    items = slot.Atom (value.Whole (pos 2)) ∷ slot.Atom (value.Whole (pos 3)) ∷ [];
+    items = numbers;
     is_array = refl;
     one_each = refl;
   }
 
-first_of : List ℕ → ℕ
-first_of [] = 0
-first_of (x ∷ xs) = x
+-- whether a name is that of the first parameter
+abbrev is_first : List ℕ → Bool
+is_first [] = false
+is_first (x ∷ xs) = nat_eq x 97
 
 parameters_differ : codes "a" ≡ codes "b" → ⊥
-parameters_differ e = let h : 97 ≡ 98 = ap first_of e in omega (arith, h)
+parameters_differ e = let first : is_first (codes "b") ≡ true = subst (λ z. is_first z ≡ true) e refl in false≢true first
 
 pub call_valid : (a b : Declared) (args : Graph) → IsAdd a → IsApp b → args ≡ record { root = slot.Node 0; nodes = two_and_three } → IsValidGround (calling a b args)
 call_valid a b args p q e =
@@ -99,5 +106,5 @@ call_valid a b args p q e =
       one_action = subst (λ d. NoneTwice (actions (a ∷ d ∷ []))) (sym q.1.0) (subst (λ d. NoneTwice (actions (d ∷ declared.Server (codes "App") [] q.0 ∷ []))) (sym p.1.0) (tt, tt));
       has_app = (1, ([], (q.0, ap Some q.1.0)));
       script = no_script;
-      first = (2, ((codes "add", (codes "a" ∷ codes "b" ∷ [], (p.0, ap Some p.1.0, refl))), subst (AreArguments 2) (sym e) arguments));
+      first = (2, (codes "add", (codes "a" ∷ codes "b" ∷ [], (p.0, ap Some p.1.0, refl))), subst (AreArguments 2) (sym e) arguments);
     }
