@@ -1,4 +1,3 @@
 pub mod Date
 pub mod Graph
 pub mod Store
-pub mod Held

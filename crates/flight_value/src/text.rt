@@ -6,37 +6,25 @@ ghost use Rattle.std.specs.Hash as hashed;
 ghost use Rattle.std.proofs.Common.{rules};
 
 use crate::memory::Memory;
-use arrayvec::ArrayString;
 use std::alloc::{AllocError, Global};
 use std::hash::{Hash, Hasher};
 use std::marker::Model;
 
-/// How many bytes of a text lie in the value itself.
-const INLINE: usize = 16;
-
-/// Where a text lies: most names and values are short, and these take no memory of their own.
-#[derive(Debug, Drop)]
-enum Held {
-    Short(ArrayString<INLINE>),
-    Long(String),
-}
-
 /// A text, which contracts see as its bytes. The bytes are UTF-8.
 #[derive(Debug, Drop)]
 pub struct Text {
-    held: Held,
+    text: String,
 }
 
 impl Model for Text {
-    ghost use Rattle.std.specs.Prelude.{List, ℕ};
-    ghost use Rattle.flight_value.specs.Held.{bytes_of};
+    ghost use Rattle.std.specs.Prelude.{List, ℕ, string_bytes};
     ghost use Rattle.std.specs.Coded.{coded_list, coded_ℕ};
 
     ghost Value = { List ℕ };
 
     ghost coded = { coded_list coded_ℕ };
 
-    ghost view = { λ t. bytes_of t.held };
+    ghost view = { λ t. string_bytes t.text };
 }
 
 impl Text {
@@ -44,35 +32,23 @@ impl Text {
     pub fn new(alloc: Global, text: &str) -> Result<Text, Memory>
         ensures { IfOk result (λ t. t ≡ text.now) }
     {
-        let held = match ArrayString::from(text) {
-            Ok(short) => Held::Short(short),
-            Err(_) => Held::Long(String::from_str(alloc, text)?),
-        };
-        Ok(Text { held })
+        Ok(Text {
+            text: String::from_str(alloc, text)?,
+        })
     }
 
-    /// A text that was built already. It is not copied, unless it is short.
+    /// A text that was built already, which is not copied.
     pub fn from_string(text: String) -> Text
         ensures { result ≡ string_bytes text }
     {
-        if let Ok(short) = ArrayString::from(text.as_str()) {
-            return Text {
-                held: Held::Short(short),
-            };
-        }
-        Text {
-            held: Held::Long(text),
-        }
+        Text { text }
     }
 
     /// The text itself.
     pub fn as_str(&self) -> &str
         ensures { result.now ≡ self.now }
     {
-        match &self.held {
-            Held::Short(text) => text.as_str(),
-            Held::Long(text) => text.as_str(),
-        }
+        self.text.as_str()
     }
 }
 
@@ -80,11 +56,9 @@ impl Clone for Text {
     ghost is_clone = { λ s t. t ≡ s };
 
     fn clone(&self) -> Result<Text, AllocError> {
-        let held = match &self.held {
-            Held::Short(text) => Held::Short(*text),
-            Held::Long(text) => Held::Long(text.clone()?),
-        };
-        Ok(Text { held })
+        Ok(Text {
+            text: self.text.clone()?,
+        })
     }
 }
 
@@ -94,7 +68,7 @@ impl PartialEq for Text {
     ghost laws = { partial_equiv_from_equiv nat_list_eq_equiv };
 
     fn eq(&self, other: &Self) -> bool {
-        self.as_str() == other.as_str()
+        self.text == other.text
     }
 }
 
