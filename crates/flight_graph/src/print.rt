@@ -235,7 +235,7 @@ fn write_atom(out: &mut String, atom: &Atom) -> Result<(), Memory>
         Atom::Bool(true) => out.push_str("true")?,
         Atom::Bool(false) => out.push_str("false")?,
         Atom::Whole(n) => write_integer(out, *n)?,
-        Atom::Big(n) => write_big(out, n.get())?,
+        Atom::Big(n) => write_big(out, *n)?,
         Atom::Text(text) => write_string(out, text.as_str())?,
         Atom::Date(text) => write_plain(out, "date ", text)?,
         Atom::Symbol(text) => write_named(out, "symbol ", text)?,

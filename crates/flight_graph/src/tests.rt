@@ -2,7 +2,7 @@ ghost use Rattle.flight_value.specs.Graph.{IsValid};
 
 use crate::valid::is_valid;
 use crate::{Kind, Label, alike, canon, canon_text, look, write_string};
-use flight_value::{Atom, Constant, End, Flow, Graph, List, Memory, Node, Prop, Slot, Text, Wide};
+use flight_value::{Atom, Constant, End, Flow, Graph, List, Memory, Node, Prop, Slot, Text};
 use std::alloc::Global;
 use std::test::Fail;
 
@@ -63,7 +63,7 @@ fn atoms(alloc: Global) -> Result<Vec<Slot>, Memory> {
         Atom::Bool(false),
         Atom::Whole(0),
         Atom::Whole(-9007199254740991),
-        Atom::Big(Wide::new(i128::MIN)),
+        Atom::Big(i128::MIN),
         Atom::Pending,
     ] {
         slots.push(Slot::Atom(atom))?;

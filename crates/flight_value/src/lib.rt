@@ -21,7 +21,6 @@ mod shared;
 #[cfg(test)]
 mod tests;
 mod text;
-mod wide;
 
 pub use date::is_date;
 pub use graph::{Atom, Constant, End, Flow, Graph, Node, Pair, Prop, Slot};
@@ -32,4 +31,3 @@ pub use memory::Memory;
 pub use name::Name;
 pub use shared::Shared;
 pub use text::Text;
-pub use wide::Wide;
