@@ -11,7 +11,6 @@ use Rattle.flight_client.specs.Rows.{IsWhole}
 use Rattle.flight_client.specs.Faults.{HasFeedEnd, EndsWithFault}
 use Rattle.flight_client.specs.Adding.{IsWanting, IsEndFault}
 use Rattle.std.specs.Prelude.{Result, Ok, Err, OnOk}
-use Rattle.flight_value.specs.declared.graph.Graph.{Graph}
 use Rattle.flight_place.specs.Good.{IsGood}
 use Rattle.flight_client.specs.Held.{IsOn, Stands}
 
@@ -65,6 +64,6 @@ on_ends text feed placed (fault.Undefined id) n on h = whole_ends text placed (f
 on_ends text feed placed fault.Memory n on h = absurd (n refl)
 
 -- the rows of a whole text
-pub good_on : (r : Result Graph ClientFault) (text : List ℕ) (feed : Fed) (placed : List PlacedRow) → IsOn text feed placed → OnOk r ((feed.bytes ≡ []) × IsGood placed) → OnOk r (IsWhole text placed × IsGood placed)
+pub good_on : {T : Type 0} (r : Result T ClientFault) (text : List ℕ) (feed : Fed) (placed : List PlacedRow) → IsOn text feed placed → OnOk r ((feed.bytes ≡ []) × IsGood placed) → OnOk r (IsWhole text placed × IsGood placed)
 good_on (Ok g) text feed placed on h = (on_whole text feed placed on h.0, h.1)
 good_on (Err f) text feed placed on h = tt

@@ -1,6 +1,8 @@
 ghost use Rattle.std.specs.Prelude.{◌≡◌, ◌≢◌, ◌++◌, ℕ, List, [], None, Some, Ok, Err, OnOk, IfOk, IfErr};
 ghost use Rattle.flight_value.specs.Graph.{IsValid};
 ghost use Rattle.flight_value.specs.Store.{DrawOneGraph, of_graph};
+ghost use Rattle.flight_value.specs.declared.graph.Graph.{Graph};
+ghost use Rattle.flight_graph.specs.Text.{text_of};
 ghost use Rattle.flight_place.specs.Meaning.{meaning};
 ghost use Rattle.flight_place.specs.Good.{IsGood};
 ghost use Rattle.flight_link.specs.Looking.{IsSeen};
@@ -10,12 +12,12 @@ ghost use Rattle.flight_client.specs.Faults.{EndsWithFault};
 ghost use Rattle.flight_client.specs.Held.{HasTaken};
 ghost use Rattle.flight_client.specs.declared.fault.ClientFault.{ClientFault};
 
-use crate::ended::end_stream;
+use crate::ended::{end_stream, end_stream_in_text};
 use crate::fault::ClientFault;
 use crate::piece::take;
 use flight_feed::Feed;
 use flight_link::{Links, Seen};
-use flight_value::{Graph, List, Memory};
+use flight_value::{Graph, List, Memory, Text};
 use std::alloc::Global;
 use std::marker::Model;
 
@@ -113,6 +115,25 @@ impl Client {
         match fault {
             Some(fault) => Err(fault),
             None => end_stream(alloc, feed, links),
+        }
+    }
+
+    /// The same, where the canonical text of the graph is wanted and not the graph, which is not built.
+    pub fn finish_text(self, alloc: Global) -> Result<Text, ClientFault>
+        ensures good { (text : List ℕ) → HasTaken text self → OnOk result (IsWhole text self.rows × IsGood self.rows) }
+        ensures text { IfOk result (λ t. (g : Graph) × IsValid g × DrawOneGraph (of_graph g) (meaning self.rows) × (t ≡ text_of g)) }
+        ensures fault { (text : List ℕ) (f : ClientFault) → HasTaken text self → result ≡ Err f → f ≢ ClientFault.Memory → EndsWithFault text f }
+        ensures kept { (f : ClientFault) → self.fault ≡ Some f → result ≡ Err f }
+    {
+        let Client {
+            alloc: _,
+            feed,
+            links,
+            fault,
+        } = self;
+        match fault {
+            Some(fault) => Err(fault),
+            None => end_stream_in_text(alloc, feed, links),
         }
     }
 }

@@ -1,12 +1,15 @@
 ghost use Rattle.std.specs.Prelude.{◌≡◌, ◌≢◌, ◌<◌, List, ℕ, Err, IfOk};
 ghost use Rattle.flight_value.specs.Graph.{IsValid};
+ghost use Rattle.flight_value.specs.declared.graph.Graph.{Graph};
+ghost use Rattle.flight_graph.specs.Text.{text_of};
 ghost use Rattle.flight_client.specs.Faults.{EndsWithFault};
+ghost use Rattle.flight_client.specs.Held.{HasTaken};
 ghost use Rattle.flight_client.specs.Meant.{IsMeant};
 ghost use Rattle.flight_client.specs.declared.fault.ClientFault.{ClientFault};
 
 use crate::client::Client;
 use crate::fault::ClientFault;
-use flight_value::Graph;
+use flight_value::{Graph, Text};
 use std::alloc::Global;
 
 /// The graph of a whole stream that is taken in pieces of so many bytes, or its first fault. Neither hangs on the
@@ -15,6 +18,30 @@ pub fn decode_stream(alloc: Global, cut: usize, stream: &[u8]) -> Result<Graph, 
     requires { 0 < cut }
     ensures valid { IfOk result IsValid }
     ensures meant { IfOk result (IsMeant stream.now) }
+    ensures fault { (f : ClientFault) → result ≡ Err f → f ≢ ClientFault.Memory → EndsWithFault stream.now f }
+{
+    match taken(alloc, cut, stream) {
+        Ok(client) => client.finish(alloc),
+        Err(fault) => Err(fault),
+    }
+}
+
+/// The canonical text of that graph, which is not built, or the first fault of the stream.
+pub fn decode_text(alloc: Global, cut: usize, stream: &[u8]) -> Result<Text, ClientFault>
+    requires { 0 < cut }
+    ensures meant { IfOk result (λ t. (g : Graph) × IsValid g × IsMeant stream.now g × (t ≡ text_of g)) }
+    ensures fault { (f : ClientFault) → result ≡ Err f → f ≢ ClientFault.Memory → EndsWithFault stream.now f }
+{
+    match taken(alloc, cut, stream) {
+        Ok(client) => client.finish_text(alloc),
+        Err(fault) => Err(fault),
+    }
+}
+
+/// A client that has taken a whole stream in pieces of so many bytes, or the first fault on the way.
+fn taken(alloc: Global, cut: usize, stream: &[u8]) -> Result<Client, ClientFault>
+    requires { 0 < cut }
+    ensures taken { IfOk result (HasTaken stream.now) }
     ensures fault { (f : ClientFault) → result ≡ Err f → f ≢ ClientFault.Memory → EndsWithFault stream.now f }
 {
     let mut client = Client::new(alloc);
@@ -26,5 +53,5 @@ pub fn decode_stream(alloc: Global, cut: usize, stream: &[u8]) -> Result<Graph, 
         }
         left = rest;
     }
-    client.finish(alloc)
+    Ok(client)
 }

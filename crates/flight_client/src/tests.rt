@@ -1,4 +1,4 @@
-use crate::{Client, ClientFault, decode_stream, one_reading};
+use crate::{Client, ClientFault, decode_stream, decode_text, one_reading};
 use flight_feed::FeedKind;
 use flight_graph::{Kind, Label, canon_text, look};
 use flight_link::{LinkKind, Seen};
@@ -6,10 +6,17 @@ use flight_place::PlaceKind;
 use flight_value::{Atom, Text};
 use std::test::Fail;
 
-/// The text of the graph of a stream that comes in pieces of `cut` bytes.
+/// The text of the graph of a stream that comes in pieces of `cut` bytes, where it is the same whether the graph is built
+/// or not.
 fn text(rt: &HostRuntime, cut: usize, stream: &str) -> Result<Text, ClientFault> {
     let graph = decode_stream(rt.alloc(), cut.max(1), stream.as_bytes())?;
-    Ok(canon_text(rt.alloc(), &graph)?)
+    let built = canon_text(rt.alloc(), &graph)?;
+    let found = decode_text(rt.alloc(), cut.max(1), stream.as_bytes())?;
+    if built.as_str() == found.as_str() {
+        Ok(found)
+    } else {
+        Ok(Text::new(rt.alloc(), "two texts")?)
+    }
 }
 
 const MAP: &str =

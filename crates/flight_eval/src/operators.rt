@@ -8,7 +8,7 @@ ghost use Rattle.flight_eval.specs.Gives.{Comes, Throws};
 
 use crate::stop::Stop;
 use flight_syntax::Op;
-use flight_value::{Atom, Memory, Text, Tree};
+use flight_value::{Atom, Memory, Text, Tree, Wide};
 use std::alloc::Global;
 
 /// The stop that a digest is thrown with.
@@ -43,7 +43,7 @@ fn big(alloc: Global, number: Option<i128>) -> Result<Atom, Stop>
     ensures { (z : ℤ) → SomeIff number (FitsSigned w128 z) z → Comes (big z) result }
 {
     match number {
-        Some(number) => Ok(Atom::Big(number)),
+        Some(number) => Ok(Atom::Big(Wide::new(number))),
         None => Err(throws(alloc, "range")),
     }
 }
@@ -79,7 +79,7 @@ fn plus(alloc: Global, x: &Atom, y: &Atom) -> Result<Atom, Stop>
         (Atom::Text(x), Atom::Text(y)) => joined(alloc, x.as_str(), y.as_str()),
         (Atom::Text(x), Atom::Whole(y)) => joined_digits(alloc, x.as_str(), *y),
         (Atom::Whole(x), Atom::Whole(y)) => whole(alloc, x.checked_add(*y)),
-        (Atom::Big(x), Atom::Big(y)) => big(alloc, x.checked_add(*y)),
+        (Atom::Big(x), Atom::Big(y)) => big(alloc, x.get().checked_add(y.get())),
         _ => Err(throws(alloc, "type")),
     }
 }
@@ -89,7 +89,7 @@ fn minus(alloc: Global, x: &Atom, y: &Atom) -> Result<Atom, Stop>
 {
     match (x, y) {
         (Atom::Whole(x), Atom::Whole(y)) => whole(alloc, x.checked_sub(*y)),
-        (Atom::Big(x), Atom::Big(y)) => big(alloc, x.checked_sub(*y)),
+        (Atom::Big(x), Atom::Big(y)) => big(alloc, x.get().checked_sub(y.get())),
         _ => Err(throws(alloc, "type")),
     }
 }
@@ -99,7 +99,7 @@ fn times(alloc: Global, x: &Atom, y: &Atom) -> Result<Atom, Stop>
 {
     match (x, y) {
         (Atom::Whole(x), Atom::Whole(y)) => whole(alloc, x.checked_mul(*y)),
-        (Atom::Big(x), Atom::Big(y)) => big(alloc, x.checked_mul(*y)),
+        (Atom::Big(x), Atom::Big(y)) => big(alloc, x.get().checked_mul(y.get())),
         _ => Err(throws(alloc, "type")),
     }
 }
@@ -130,7 +130,7 @@ fn same_plain(x: &Atom, y: &Atom) -> bool
         (Atom::Undefined, Atom::Undefined) => true,
         (Atom::Bool(x), Atom::Bool(y)) => *x == *y,
         (Atom::Whole(x), Atom::Whole(y)) => *x == *y,
-        (Atom::Big(x), Atom::Big(y)) => *x == *y,
+        (Atom::Big(x), Atom::Big(y)) => x.get() == y.get(),
         (Atom::Text(x), Atom::Text(y)) => x.as_str() == y.as_str(),
         (Atom::Date(x), Atom::Date(y)) => x.as_str() == y.as_str(),
         (Atom::Symbol(x), Atom::Symbol(y)) => x.as_str() == y.as_str(),
@@ -152,7 +152,7 @@ fn less(alloc: Global, x: &Atom, y: &Atom) -> Result<Atom, Stop>
 {
     match (x, y) {
         (Atom::Whole(x), Atom::Whole(y)) => Ok(Atom::Bool(*x < *y)),
-        (Atom::Big(x), Atom::Big(y)) => Ok(Atom::Bool(*x < *y)),
+        (Atom::Big(x), Atom::Big(y)) => Ok(Atom::Bool(x.get() < y.get())),
         (Atom::Text(x), Atom::Text(y)) => Ok(Atom::Bool(x.as_str() < y.as_str())),
         _ => Err(throws(alloc, "type")),
     }

@@ -10,7 +10,7 @@ fn shown_atom(alloc: Global, atom: &Atom) -> Result<String, Memory> {
         Atom::Undefined => String::from_str(alloc, "undefined")?,
         Atom::Bool(it) => format!(in alloc; "{it}")?,
         Atom::Whole(number) => format!(in alloc; "{number}")?,
-        Atom::Big(number) => format!(in alloc; "{number}n")?,
+        Atom::Big(number) => format!(in alloc; "{}n", number.get())?,
         Atom::Text(text) => format!(in alloc; "'{}", text.as_str())?,
         Atom::Symbol(text) => format!(in alloc; "@{}", text.as_str())?,
         Atom::Import(text) => format!(in alloc; "&{}", text.as_str())?,

@@ -1,7 +1,7 @@
 //! Programs of tests, spelled as words, each behind the parts of its expression.
 
 use flight_syntax::{Expr, Op, PairExpr, Postfix, PropExpr, Tag};
-use flight_value::{Atom, Constant, Memory, Text};
+use flight_value::{Atom, Constant, Memory, Text, Wide};
 use sqlite_items::{Boxed, Items};
 use std::alloc::Global;
 
@@ -210,7 +210,7 @@ fn marked(alloc: Global, stack: &mut Vec<Expr>, mark: &str, rest: &str) -> Resul
 /// A whole, or a big number with an `n` behind it.
 fn numeral(word: &str) -> Result<Atom, Memory> {
     match word.strip_suffix('n') {
-        Some(digits) => Ok(Atom::Big(digits.parse::<i128>().map_err(|_| Memory)?)),
+        Some(digits) => Ok(Atom::Big(Wide::new(digits.parse::<i128>().map_err(|_| Memory)?))),
         None => Ok(Atom::Whole(word.parse::<i64>().map_err(|_| Memory)?)),
     }
 }

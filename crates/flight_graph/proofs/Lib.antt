@@ -1,5 +1,6 @@
 pub mod Drawn
 pub mod Escapes
+pub mod Ordered
 pub mod Pairs
 pub mod Places
 pub mod Reached

@@ -9,7 +9,7 @@ use Rattle.flight_graph.specs.Text.{commas, line_text, lines_from}
 use Rattle.flight_graph.specs.Writing.{comma_before}
 
 -- one more item behind others
-commas-snoc : {A : Type 0} (text : A → List ℕ) (xs : List A) (x : A) → commas text (xs ++ x ∷ []) ≡ commas text xs ++ (comma_before (length xs) ++ text x)
+pub commas-snoc : {A : Type 0} (text : A → List ℕ) (xs : List A) (x : A) → commas text (xs ++ x ∷ []) ≡ commas text xs ++ (comma_before (length xs) ++ text x)
 commas-snoc text [] x = append-nil (text x)
 commas-snoc text (y ∷ xs) x =
     let test : nat_eq (suc (length xs)) 0 ≡ false = grind (arith, nat_tests) in
@@ -18,7 +18,7 @@ commas-snoc text (y ∷ xs) x =
     ∙ (sym (append_assoc (text y) (flat_map (λ z. codes "," ++ text z) xs) (codes "," ++ text x))
     ∙ ap (λ z. commas text (y ∷ xs) ++ (z ++ text x)) (sym comma))
 
-lines-snoc : (n : ℕ) (xs : List Node) (x : Node) → lines_from n (xs ++ x ∷ []) ≡ lines_from n xs ++ line_text (n + length xs) x
+pub lines-snoc : (n : ℕ) (xs : List Node) (x : Node) → lines_from n (xs ++ x ∷ []) ≡ lines_from n xs ++ line_text (n + length xs) x
 lines-snoc n [] x = append-nil (line_text n x) ∙ ap (λ k. line_text k x) (sym (add-zero n))
 lines-snoc n (y ∷ xs) x =
     let count : n + 1 + length xs ≡ n + suc (length xs) = omega arith in

@@ -68,14 +68,14 @@ unmet_less (x ∷ nodes) (p ∷ places) (suc n) place within long fresh =
 
 -- ---- slots that are atoms make no difference
 
-names : List Slot → List Slot
+pub names : List Slot → List Slot
 names slots = map slot.Node (named slots)
 
-names-append : (s t : List Slot) → names (s ++ t) ≡ names s ++ names t
+pub names-append : (s t : List Slot) → names (s ++ t) ≡ names s ++ names t
 unfolding names
 names-append s t = ap (map slot.Node) (flat_map-append named_by s t) ∙ map-append slot.Node (named s) (named t)
 
-names_of : (ns : List ℕ) → names (map slot.Node ns) ≡ map slot.Node ns
+pub names_of : (ns : List ℕ) → names (map slot.Node ns) ≡ map slot.Node ns
 unfolding names
 names_of [] = refl
 names_of (n ∷ ns) = ap (λ s. slot.Node n ∷ s) (names_of ns)
@@ -98,26 +98,26 @@ with_names next nodes go v (slot.Node n ∷ s) =
     chosen (is_some (place_in n v)) _ _ _ _ (with_names next nodes go v s)
     (go (v ++ n ∷ []) (slots_at nodes n ++ s) ∙ (ap (next (v ++ n ∷ [])) (names_after (slots_at nodes n) s) ∙ sym (go (v ++ n ∷ []) (slots_at nodes n ++ names s))))
 
-walk_names : (k : ℕ) (nodes : List Node) (v : List ℕ) (s : List Slot) → walk k nodes v s ≡ walk k nodes v (names s)
+pub walk_names : (k : ℕ) (nodes : List Node) (v : List ℕ) (s : List Slot) → walk k nodes v s ≡ walk k nodes v (names s)
 walk_names zero nodes v s = refl
 walk_names (suc k) nodes v s = with_names (walk k nodes) nodes (walk_names k nodes) v s
 
 -- ---- a node is visited
 
-waiting_more : (ns left : List ℕ) → slots_waiting (left ++ reverse ns) ≡ map slot.Node ns ++ slots_waiting left
+pub waiting_more : (ns left : List ℕ) → slots_waiting (left ++ reverse ns) ≡ map slot.Node ns ++ slots_waiting left
 waiting_more ns left = ap (map slot.Node) (reverse-append left (reverse ns) ∙ ap (λ r. r ++ reverse left) (reverse-reverse ns)) ∙ map-append slot.Node ns (reverse left)
 
 -- the slots of a node, in front of those that wait
-slots_more : (k : ℕ) (nodes : List Node) (v left : List ℕ) (s : List Slot) → walk k nodes v (slots_waiting (left ++ reverse (named s))) ≡ walk k nodes v (s ++ slots_waiting left)
+pub slots_more : (k : ℕ) (nodes : List Node) (v left : List ℕ) (s : List Slot) → walk k nodes v (slots_waiting (left ++ reverse (named s))) ≡ walk k nodes v (s ++ slots_waiting left)
 unfolding names
 slots_more k nodes v left s =
     ap (walk k nodes v) (waiting_more (named s) left ∙ (ap (λ r. names s ++ r) (sym (names_of (reverse left))) ∙ sym (names-append s (slots_waiting left))))
     ∙ sym (walk_names k nodes v (s ++ slots_waiting left))
 
-visits : (nodes : List Node) (v : List ℕ) (slots : List Slot) (count n : ℕ) → place_in n v ≡ None → walk (suc count) nodes v (slot.Node n ∷ slots) ≡ walk count nodes (v ++ n ∷ []) (slots_at nodes n ++ slots)
+pub visits : (nodes : List Node) (v : List ℕ) (slots : List Slot) (count n : ℕ) → place_in n v ≡ None → walk (suc count) nodes v (slot.Node n ∷ slots) ≡ walk count nodes (v ++ n ∷ []) (slots_at nodes n ++ slots)
 visits nodes v slots count n fresh = rw fresh refl
 
-passes : (nodes : List Node) (v : List ℕ) (slots : List Slot) (count n : ℕ) → is_some (place_in n v) ≡ true → walk (suc count) nodes v (slot.Node n ∷ slots) ≡ walk (suc count) nodes v slots
+pub passes : (nodes : List Node) (v : List ℕ) (slots : List Slot) (count n : ℕ) → is_some (place_in n v) ≡ true → walk (suc count) nodes v (slot.Node n ∷ slots) ≡ walk (suc count) nodes v slots
 passes nodes v slots count n test = rw test refl
 
 pub visited_kept : (w w' : Walk) (nodes : List Node) (n : ℕ) → IsKept (length nodes) w → n < length nodes → NamesBelow (length nodes) (node_at nodes n) → slice_index_or w.places.items n None ≡ None → Visits nodes n w w' → IsKept (length nodes) w'
@@ -213,7 +213,7 @@ long_replicate : (count : ℕ) → length (replicate count (let o : Option ℕ =
 long_replicate zero = refl
 long_replicate (suc count) = ap suc (long_replicate count)
 
-root_first : (k : ℕ) (nodes : List Node) (root : Slot) → walk (suc k) nodes [] (slots_waiting (named_by root)) ≡ walk (suc k) nodes [] (root ∷ [])
+pub root_first : (k : ℕ) (nodes : List Node) (root : Slot) → walk (suc k) nodes [] (slots_waiting (named_by root)) ≡ walk (suc k) nodes [] (root ∷ [])
 root_first k nodes (slot.Atom a) = refl
 root_first k nodes (slot.Node n) = refl
 

@@ -1,17 +1,18 @@
-ghost use Rattle.std.specs.Prelude.{◌≡◌, [], ◌∷◌, ◌++◌, ◌/◌, ◌%◌, ◌<◌, codes, OnOk, MatchOption, All, length, take, slice_index, string_bytes, true, false};
+ghost use Rattle.std.specs.Prelude.{◌≡◌, [], ◌∷◌, ◌++◌, ◌/◌, ◌%◌, ◌<◌, codes, OnOk, MatchOption, All, length, take, slice_index, true, false};
 ghost use Rattle.std.specs.Char.{digit_char};
 ghost use Rattle.flight_graph.specs.Text.{escaped, string_text};
 ghost use Rattle.flight_graph.specs.Writing.{is_escaped};
 
+use crate::writer::Writer;
 use flight_value::Memory;
 
 /// Appends a text as a JSON string: in quotation marks, with a backslash before `"` and `\`, with `\b`, `\f`,
 /// `\n`, `\r` and `\t`, and with other bytes below 32 as `\u00` and two lower-case hexadecimal digits. All else
 /// stands as it is. Where memory is wanting, a part may be appended.
-pub fn write_string(out: &mut String, text: &str) -> Result<(), Memory>
-    ensures { OnOk result (string_bytes out.new ≡ string_bytes out.old ++ string_text text.now) }
+pub fn write_string(out: &mut Writer, text: &str) -> Result<(), Memory>
+    ensures { OnOk result (out.new ≡ out.old ++ string_text text.now) }
 {
-    put(out, '"')?;
+    put(out, b'"')?;
     let mut rest = text;
     while let Some(at) = first_escaped(rest.as_bytes()) {
         out.push_str(&rest[..at])?;
@@ -19,17 +20,16 @@ pub fn write_string(out: &mut String, text: &str) -> Result<(), Memory>
         rest = &rest[at + 1..];
     }
     out.push_str(rest)?;
-    put(out, '"')?;
+    put(out, b'"')?;
     Ok(())
 }
 
 /// Appends a character of ASCII.
-pub fn put(out: &mut String, character: char) -> Result<(), Memory>
+pub fn put(out: &mut Writer, character: u8) -> Result<(), Memory>
     requires { character < 128 }
-    ensures { OnOk result (string_bytes out.new ≡ string_bytes out.old ++ character ∷ []) }
+    ensures { OnOk result (out.new ≡ out.old ++ character ∷ []) }
 {
-    out.push(character)?;
-    Ok(())
+    out.push(character)
 }
 
 /// Where the first byte stands that may not stand as it is.
@@ -46,9 +46,9 @@ fn is_escaped(byte: u8) -> bool
 }
 
 /// Appends a byte of ASCII as it stands within a JSON string.
-fn write_escaped(out: &mut String, byte: u8) -> Result<(), Memory>
+fn write_escaped(out: &mut Writer, byte: u8) -> Result<(), Memory>
     requires { byte < 128 }
-    ensures { OnOk result (string_bytes out.new ≡ string_bytes out.old ++ escaped byte) }
+    ensures { OnOk result (out.new ≡ out.old ++ escaped byte) }
 {
     match byte {
         b'"' => out.push_str("\\\"")?,
@@ -59,15 +59,15 @@ fn write_escaped(out: &mut String, byte: u8) -> Result<(), Memory>
         b'\r' => out.push_str("\\r")?,
         b'\t' => out.push_str("\\t")?,
         0..32 => write_control(out, byte)?,
-        _ => out.push(char::from(byte))?,
+        _ => out.push(byte)?,
     }
     Ok(())
 }
 
 /// Appends the escape of a control byte by its number.
-fn write_control(out: &mut String, byte: u8) -> Result<(), Memory>
+fn write_control(out: &mut Writer, byte: u8) -> Result<(), Memory>
     requires { byte < 32 }
-    ensures { OnOk result (string_bytes out.new ≡ string_bytes out.old ++ codes "\\u00" ++ digit_char (byte / 16) ∷ digit_char (byte % 16) ∷ []) }
+    ensures { OnOk result (out.new ≡ out.old ++ codes "\\u00" ++ digit_char (byte / 16) ∷ digit_char (byte % 16) ∷ []) }
 {
     out.push_str("\\u00")?;
     out.push(hex_digit(byte / 16))?;
@@ -76,9 +76,9 @@ fn write_control(out: &mut String, byte: u8) -> Result<(), Memory>
 }
 
 /// The lower-case hexadecimal digit of a number below 16.
-fn hex_digit(n: u8) -> char
+fn hex_digit(n: u8) -> u8
     requires { n < 16 }
     ensures { result ≡ digit_char n }
 {
-    char::from(if n < 10 { b'0' + n } else { b'a' + (n - 10) })
+    if n < 10 { b'0' + n } else { b'a' + (n - 10) }
 }

@@ -1,8 +1,10 @@
-ghost use Rattle.std.specs.Prelude.{◌≡◌};
+ghost use Rattle.std.specs.Prelude.{◌≡◌, length};
 ghost use Rattle.flight_value.specs.Graph.{IsValid};
 ghost use Rattle.flight_value.specs.Store.{DrawOneGraph, of_graph};
 ghost use Rattle.flight_value.specs.declared.graph.Graph.{Graph};
-ghost use Rattle.flight_graph.specs.Canon.{canon_of};
+ghost use Rattle.flight_graph.specs.Canon.{canon_of, visited_of};
+ghost use Rattle.flight_graph.specs.Ordered.{in_order};
+ghost use Rattle.flight_graph.specs.Text.{graph_text, text_of};
 
 /// The law of pairs, which is a fact alone and does nothing: two valid graphs have one canon exactly where
 /// some list of pairs of their nodes fits.
@@ -14,4 +16,10 @@ pub fn same_by_pairs()
 /// A fact alone: the canon of a valid graph is valid.
 pub fn canon_is_valid()
     ensures { (g : Graph) → IsValid g → IsValid (canon_of g) }
+{}
+
+/// A fact alone: a valid graph whose nodes stand in the order of a first visit is its own canon.
+pub fn canon_in_order()
+    ensures canon { (g : Graph) → IsValid g → visited_of g ≡ in_order (length g.nodes) → canon_of g ≡ g }
+    ensures text { (g : Graph) → IsValid g → visited_of g ≡ in_order (length g.nodes) → text_of g ≡ graph_text g }
 {}

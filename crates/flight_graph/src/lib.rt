@@ -13,6 +13,9 @@
 //! #1 object {"self":#1}
 //! ```
 //!
+//! [`write_atom`], [`write_number`], [`write_string`], [`write_comma`] and [`put`] append the pieces of that text, for who
+//! prints a graph that it does not hold.
+//!
 //! Walking and printing take time and memory in proportion to the nodes, the slots and the text; no machine
 //! stack grows with the graph.
 #![tactic(auto)]
@@ -29,12 +32,14 @@ mod tests;
 #[cfg(test)]
 mod valid;
 mod walk;
+mod writer;
 
 pub use equal::alike;
-pub use escape::write_string;
+pub use escape::{put, write_string};
 pub use label::{Kind, Label};
-pub use law::{canon_is_valid, same_by_pairs};
-pub use print::canon_text;
+pub use law::{canon_in_order, canon_is_valid, same_by_pairs};
+pub use print::{canon_text, write_atom, write_comma, write_number};
 pub use rename::canon;
 pub use sight::look;
 pub use walk::visited;
+pub use writer::Writer;

@@ -1,14 +1,15 @@
-ghost use Rattle.std.specs.Prelude.{◌≡◌, ◌<◌, ◌++◌, ℕ, All, IfOk, OnOk, codes, length, map, string_bytes};
+ghost use Rattle.std.specs.Prelude.{◌≡◌, ◌<◌, ◌++◌, ℕ, All, IfOk, OnOk, codes, length, map};
 ghost use Rattle.std.specs.Fmt.{signed_decimal};
 ghost use Rattle.flight_value.specs.Graph.{IsValid};
 ghost use Rattle.flight_graph.specs.Canon.{map_end, map_pair, map_prop, map_slots, node_at};
-ghost use Rattle.flight_graph.specs.Text.{atom_text, commas, constant_text, end_text, flow_text, line_text, lines_from, node_text, pair_text, prop_text, slot_text, string_text, text_of};
+ghost use Rattle.flight_graph.specs.Text.{atom_text, commas, constant_text, end_text, flow_text, line_text, lines_from, node_text, number_text, pair_text, prop_text, slot_text, string_text, text_of};
 ghost use Rattle.flight_graph.specs.Walk.{placed};
 ghost use Rattle.flight_graph.specs.Writing.{comma_before};
 
 use crate::escape::{put, write_string};
 use crate::rename::{node_in, place_of};
 use crate::walk::visit_all;
+use crate::writer::Writer;
 use flight_value::{Atom, Constant, End, Flow, Graph, Memory, Node, Pair, Prop, Slot, Text};
 use itoa::{Buffer, Integer};
 use std::alloc::Global;
@@ -22,23 +23,23 @@ pub fn canon_text(alloc: Global, graph: &Graph) -> Result<Text, Memory>
     let walk = visit_all(alloc, graph)?;
     let places = walk.places.as_slice();
     let nodes = graph.nodes.as_slice();
-    let mut out = String::new(alloc);
+    let mut out = Writer::new(alloc);
     out.push_str("root ")?;
     write_slot(&mut out, places, &graph.root)?;
-    put(&mut out, '\n')?;
+    put(&mut out, b'\n')?;
     write_lines(&mut out, places, nodes, walk.order.as_slice())?;
-    Ok(Text::from_string(out))
+    Ok(out.into_text()?)
 }
 
 /// The lines of the nodes of that order.
 fn write_lines(
-    out: &mut String,
+    out: &mut Writer,
     places: &[Option<u32>],
     nodes: &[Node],
     order: &[u32],
 ) -> Result<(), Memory>
     requires { All (λ n. n < length nodes.now) order.now }
-    ensures { OnOk result (string_bytes out.new ≡ string_bytes out.old ++ lines_from 0 (map (λ n. map_slots (placed places.now) (node_at nodes.now n)) order.now)) }
+    ensures { OnOk result (out.new ≡ out.old ++ lines_from 0 (map (λ n. map_slots (placed places.now) (node_at nodes.now n)) order.now)) }
 {
     for (place, node) in order.iter().enumerate() {
         write_line(out, places, place, node_in(nodes, *node))?;
@@ -47,23 +48,22 @@ fn write_lines(
 }
 
 fn write_line(
-    out: &mut String,
+    out: &mut Writer,
     places: &[Option<u32>],
     place: usize,
     node: &Node,
 ) -> Result<(), Memory>
-    ensures { OnOk result (string_bytes out.new ≡ string_bytes out.old ++ line_text place (map_slots (placed places.now) node.now)) }
+    ensures { OnOk result (out.new ≡ out.old ++ line_text place (map_slots (placed places.now) node.now)) }
 {
-    put(out, '#')?;
-    write_integer(out, place)?;
-    put(out, ' ')?;
+    write_number(out, place)?;
+    put(out, b' ')?;
     write_node(out, places, node)?;
-    put(out, '\n')?;
+    put(out, b'\n')?;
     Ok(())
 }
 
-fn write_node(out: &mut String, places: &[Option<u32>], node: &Node) -> Result<(), Memory>
-    ensures { OnOk result (string_bytes out.new ≡ string_bytes out.old ++ node_text (map_slots (placed places.now) node.now)) }
+fn write_node(out: &mut Writer, places: &[Option<u32>], node: &Node) -> Result<(), Memory>
+    ensures { OnOk result (out.new ≡ out.old ++ node_text (map_slots (placed places.now) node.now)) }
 {
     match node {
         Node::Array(items) => write_items(out, places, "array", items.as_slice()),
@@ -77,32 +77,32 @@ fn write_node(out: &mut String, places: &[Option<u32>], node: &Node) -> Result<(
         }
         Node::Stream { flow, items, end } => {
             write_items(out, places, flow_word(*flow), items.as_slice())?;
-            put(out, ' ')?;
+            put(out, b' ')?;
             write_end(out, places, end)
         }
         Node::Action { id, bound } => {
             out.push_str("action ")?;
             write_string(out, id.as_str())?;
-            put(out, ' ')?;
+            put(out, b' ')?;
             write_slot(out, places, bound)
         }
     }
 }
 
 fn write_element(
-    out: &mut String,
+    out: &mut Writer,
     places: &[Option<u32>],
     tag: &Slot,
     key: &Slot,
     props: &Slot,
 ) -> Result<(), Memory>
-    ensures { OnOk result (string_bytes out.new ≡ string_bytes out.old ++ codes "element " ++ slot_text (placed places.now tag.now) ++ codes " " ++ slot_text (placed places.now key.now) ++ codes " " ++ slot_text (placed places.now props.now)) }
+    ensures { OnOk result (out.new ≡ out.old ++ codes "element " ++ slot_text (placed places.now tag.now) ++ codes " " ++ slot_text (placed places.now key.now) ++ codes " " ++ slot_text (placed places.now props.now)) }
 {
     out.push_str("element ")?;
     write_slot(out, places, tag)?;
-    put(out, ' ')?;
+    put(out, b' ')?;
     write_slot(out, places, key)?;
-    put(out, ' ')?;
+    put(out, b' ')?;
     write_slot(out, places, props)
 }
 
@@ -116,8 +116,8 @@ fn flow_word(flow: Flow) -> &'static str
     }
 }
 
-fn write_end(out: &mut String, places: &[Option<u32>], end: &End) -> Result<(), Memory>
-    ensures { OnOk result (string_bytes out.new ≡ string_bytes out.old ++ end_text (map_end (placed places.now) end.now)) }
+fn write_end(out: &mut Writer, places: &[Option<u32>], end: &End) -> Result<(), Memory>
+    ensures { OnOk result (out.new ≡ out.old ++ end_text (map_end (placed places.now) end.now)) }
 {
     match end {
         End::Going => {
@@ -137,22 +137,22 @@ fn write_end(out: &mut String, places: &[Option<u32>], end: &End) -> Result<(), 
 
 /// A word and the slots behind it in brackets.
 fn write_items(
-    out: &mut String,
+    out: &mut Writer,
     places: &[Option<u32>],
     word: &str,
     items: &[Slot],
 ) -> Result<(), Memory>
-    ensures { OnOk result (string_bytes out.new ≡ string_bytes out.old ++ word.now ++ codes " [" ++ commas slot_text (map (placed places.now) items.now) ++ codes "]") }
+    ensures { OnOk result (out.new ≡ out.old ++ word.now ++ codes " [" ++ commas slot_text (map (placed places.now) items.now) ++ codes "]") }
 {
     out.push_str(word)?;
     out.push_str(" [")?;
     write_slots(out, places, items)?;
-    put(out, ']')?;
+    put(out, b']')?;
     Ok(())
 }
 
-fn write_slots(out: &mut String, places: &[Option<u32>], slots: &[Slot]) -> Result<(), Memory>
-    ensures { OnOk result (string_bytes out.new ≡ string_bytes out.old ++ commas slot_text (map (placed places.now) slots.now)) }
+fn write_slots(out: &mut Writer, places: &[Option<u32>], slots: &[Slot]) -> Result<(), Memory>
+    ensures { OnOk result (out.new ≡ out.old ++ commas slot_text (map (placed places.now) slots.now)) }
 {
     for (at, slot) in slots.iter().enumerate() {
         write_comma(out, at)?;
@@ -161,73 +161,79 @@ fn write_slots(out: &mut String, places: &[Option<u32>], slots: &[Slot]) -> Resu
     Ok(())
 }
 
-fn write_props(out: &mut String, places: &[Option<u32>], props: &[Prop]) -> Result<(), Memory>
-    ensures { OnOk result (string_bytes out.new ≡ string_bytes out.old ++ codes "object {" ++ commas prop_text (map (map_prop (placed places.now)) props.now) ++ codes "}") }
+fn write_props(out: &mut Writer, places: &[Option<u32>], props: &[Prop]) -> Result<(), Memory>
+    ensures { OnOk result (out.new ≡ out.old ++ codes "object {" ++ commas prop_text (map (map_prop (placed places.now)) props.now) ++ codes "}") }
 {
     out.push_str("object {")?;
     for (at, prop) in props.iter().enumerate() {
         write_comma(out, at)?;
         write_prop(out, places, prop)?;
     }
-    put(out, '}')?;
+    put(out, b'}')?;
     Ok(())
 }
 
-fn write_prop(out: &mut String, places: &[Option<u32>], prop: &Prop) -> Result<(), Memory>
-    ensures { OnOk result (string_bytes out.new ≡ string_bytes out.old ++ prop_text (map_prop (placed places.now) prop.now)) }
+fn write_prop(out: &mut Writer, places: &[Option<u32>], prop: &Prop) -> Result<(), Memory>
+    ensures { OnOk result (out.new ≡ out.old ++ prop_text (map_prop (placed places.now) prop.now)) }
 {
     write_string(out, prop.name.as_str())?;
-    put(out, ':')?;
+    put(out, b':')?;
     write_slot(out, places, &prop.slot)
 }
 
-fn write_pairs(out: &mut String, places: &[Option<u32>], pairs: &[Pair]) -> Result<(), Memory>
-    ensures { OnOk result (string_bytes out.new ≡ string_bytes out.old ++ codes "map [" ++ commas pair_text (map (map_pair (placed places.now)) pairs.now) ++ codes "]") }
+fn write_pairs(out: &mut Writer, places: &[Option<u32>], pairs: &[Pair]) -> Result<(), Memory>
+    ensures { OnOk result (out.new ≡ out.old ++ codes "map [" ++ commas pair_text (map (map_pair (placed places.now)) pairs.now) ++ codes "]") }
 {
     out.push_str("map [")?;
     for (at, pair) in pairs.iter().enumerate() {
         write_comma(out, at)?;
         write_pair(out, places, pair)?;
     }
-    put(out, ']')?;
+    put(out, b']')?;
     Ok(())
 }
 
-fn write_pair(out: &mut String, places: &[Option<u32>], pair: &Pair) -> Result<(), Memory>
-    ensures { OnOk result (string_bytes out.new ≡ string_bytes out.old ++ pair_text (map_pair (placed places.now) pair.now)) }
+fn write_pair(out: &mut Writer, places: &[Option<u32>], pair: &Pair) -> Result<(), Memory>
+    ensures { OnOk result (out.new ≡ out.old ++ pair_text (map_pair (placed places.now) pair.now)) }
 {
-    put(out, '[')?;
+    put(out, b'[')?;
     write_slot(out, places, &pair.key)?;
-    put(out, ',')?;
+    put(out, b',')?;
     write_slot(out, places, &pair.value)?;
-    put(out, ']')?;
+    put(out, b']')?;
     Ok(())
 }
 
-/// A comma, but before the first of a row.
-fn write_comma(out: &mut String, at: usize) -> Result<(), Memory>
-    ensures { OnOk result (string_bytes out.new ≡ string_bytes out.old ++ comma_before at) }
+/// Appends a comma, but before the first of a row.
+pub fn write_comma(out: &mut Writer, at: usize) -> Result<(), Memory>
+    ensures { OnOk result (out.new ≡ out.old ++ comma_before at) }
 {
     if at > 0 {
-        put(out, ',')?;
+        put(out, b',')?;
     }
     Ok(())
 }
 
-fn write_slot(out: &mut String, places: &[Option<u32>], slot: &Slot) -> Result<(), Memory>
-    ensures { OnOk result (string_bytes out.new ≡ string_bytes out.old ++ slot_text (placed places.now slot.now)) }
+fn write_slot(out: &mut Writer, places: &[Option<u32>], slot: &Slot) -> Result<(), Memory>
+    ensures { OnOk result (out.new ≡ out.old ++ slot_text (placed places.now slot.now)) }
 {
     match slot {
         Slot::Atom(atom) => write_atom(out, atom),
-        Slot::Node(node) => {
-            put(out, '#')?;
-            write_integer(out, place_of(places, *node))
-        }
+        Slot::Node(node) => write_number(out, place_of(places, *node) as usize),
     }
 }
 
-fn write_atom(out: &mut String, atom: &Atom) -> Result<(), Memory>
-    ensures { OnOk result (string_bytes out.new ≡ string_bytes out.old ++ atom_text atom.now) }
+/// Appends the number of a node, as it stands in a slot and at the beginning of a line.
+pub fn write_number(out: &mut Writer, number: usize) -> Result<(), Memory>
+    ensures { OnOk result (out.new ≡ out.old ++ number_text number) }
+{
+    put(out, b'#')?;
+    write_integer(out, number)
+}
+
+/// Appends an atom, as it stands in a slot.
+pub fn write_atom(out: &mut Writer, atom: &Atom) -> Result<(), Memory>
+    ensures { OnOk result (out.new ≡ out.old ++ atom_text atom.now) }
 {
     match atom {
         Atom::Null => out.push_str("null")?,
@@ -235,7 +241,7 @@ fn write_atom(out: &mut String, atom: &Atom) -> Result<(), Memory>
         Atom::Bool(true) => out.push_str("true")?,
         Atom::Bool(false) => out.push_str("false")?,
         Atom::Whole(n) => write_integer(out, *n)?,
-        Atom::Big(n) => write_big(out, *n)?,
+        Atom::Big(n) => write_big(out, n.get())?,
         Atom::Text(text) => write_string(out, text.as_str())?,
         Atom::Date(text) => write_plain(out, "date ", text)?,
         Atom::Symbol(text) => write_named(out, "symbol ", text)?,
@@ -259,8 +265,8 @@ fn constant_word(constant: Constant) -> &'static str
 }
 
 /// A word and a text as it stands.
-fn write_plain(out: &mut String, word: &str, text: &Text) -> Result<(), Memory>
-    ensures { OnOk result (string_bytes out.new ≡ string_bytes out.old ++ word.now ++ text.now) }
+fn write_plain(out: &mut Writer, word: &str, text: &Text) -> Result<(), Memory>
+    ensures { OnOk result (out.new ≡ out.old ++ word.now ++ text.now) }
 {
     out.push_str(word)?;
     out.push_str(text.as_str())?;
@@ -268,23 +274,23 @@ fn write_plain(out: &mut String, word: &str, text: &Text) -> Result<(), Memory>
 }
 
 /// A word and a text as a JSON string.
-fn write_named(out: &mut String, word: &str, text: &Text) -> Result<(), Memory>
-    ensures { OnOk result (string_bytes out.new ≡ string_bytes out.old ++ word.now ++ string_text text.now) }
+fn write_named(out: &mut Writer, word: &str, text: &Text) -> Result<(), Memory>
+    ensures { OnOk result (out.new ≡ out.old ++ word.now ++ string_text text.now) }
 {
     out.push_str(word)?;
     write_string(out, text.as_str())
 }
 
-fn write_big(out: &mut String, n: i128) -> Result<(), Memory>
-    ensures { OnOk result (string_bytes out.new ≡ string_bytes out.old ++ signed_decimal n ++ codes "n") }
+fn write_big(out: &mut Writer, n: i128) -> Result<(), Memory>
+    ensures { OnOk result (out.new ≡ out.old ++ signed_decimal n ++ codes "n") }
 {
     write_integer(out, n)?;
-    put(out, 'n')?;
+    put(out, b'n')?;
     Ok(())
 }
 
-fn write_integer<I: Integer>(out: &mut String, n: I) -> Result<(), Memory>
-    ensures { OnOk result (string_bytes out.new ≡ string_bytes out.old ++ I.text n) }
+fn write_integer<I: Integer>(out: &mut Writer, n: I) -> Result<(), Memory>
+    ensures { OnOk result (out.new ≡ out.old ++ I.text n) }
 {
     out.push_str(Buffer::new().format(n))?;
     Ok(())

@@ -2,7 +2,7 @@ ghost use Rattle.flight_value.specs.Graph.{IsValid};
 
 use crate::valid::is_valid;
 use crate::{Kind, Label, alike, canon, canon_text, look, write_string};
-use flight_value::{Atom, Constant, End, Flow, Graph, List, Memory, Node, Prop, Slot, Text};
+use flight_value::{Atom, Constant, End, Flow, Graph, List, Memory, Node, Prop, Slot, Text, Wide};
 use std::alloc::Global;
 use std::test::Fail;
 
@@ -63,7 +63,7 @@ fn atoms(alloc: Global) -> Result<Vec<Slot>, Memory> {
         Atom::Bool(false),
         Atom::Whole(0),
         Atom::Whole(-9007199254740991),
-        Atom::Big(i128::MIN),
+        Atom::Big(Wide::new(i128::MIN)),
         Atom::Pending,
     ] {
         slots.push(Slot::Atom(atom))?;
@@ -181,9 +181,9 @@ fn escapes_texts(rt: HostRuntime) -> Result<(), Fail> {
             "\"say \\\"\u{e9}\\\\\u{1f600}\\\"/\u{7f}\"",
         ),
     ] {
-        let mut out = String::new(rt.alloc());
+        let mut out = Writer::new(rt.alloc());
         write_string(&mut out, text)?;
-        assert_eq!(rt; out.as_str(), json);
+        assert_eq!(rt; out.into_text()?.as_str(), json);
     }
     Ok(())
 }

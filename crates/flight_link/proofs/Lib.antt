@@ -20,6 +20,9 @@ pub mod Marks
 pub mod Sights
 pub mod Drawing
 pub mod Drawn
+pub mod LaidOut
+pub mod Lines
 pub mod Valid
 pub mod Actions
 pub mod RowsOfNodes
+pub mod Ordering

@@ -14,3 +14,5 @@ pub mod Slots
 pub mod Marks
 pub mod Numbering
 pub mod Drawing
+pub mod Laid
+pub mod Ordering

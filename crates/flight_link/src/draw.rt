@@ -14,6 +14,7 @@ ghost use Rattle.flight_link.specs.Drawing.{identity_of, Draws, AreSlots, ArePro
 
 use crate::found::Spot;
 use crate::key::NodeKey;
+use crate::laid::within;
 use crate::mention::Bases;
 use crate::node::State;
 use crate::numbers::Numbers;
@@ -298,7 +299,7 @@ impl Table {
     }
 
     /// The root of the row of an id.
-    fn root_of(&self, id: u32) -> Option<Spot>
+    pub fn root_of(&self, id: u32) -> Option<Spot>
         requires { IsTable self.now }
         ensures { IfSome result (λ s. spot_of self.now.rows.items s ≡ first_place id) }
     {
@@ -485,16 +486,6 @@ fn beside(spot: Spot, place: u32) -> Spot
     Spot {
         row: spot.row,
         place,
-    }
-}
-
-/// A count of slots that a node may have.
-fn within(count: usize) -> Result<(), Memory>
-    ensures { OnOk result (count < 2 ^ 32) }
-{
-    match u32::try_from(count) {
-        Ok(_) => Ok(()),
-        Err(_) => Err(Memory),
     }
 }
 

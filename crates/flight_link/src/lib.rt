@@ -20,6 +20,7 @@ mod found;
 mod fresh;
 mod ids;
 mod key;
+mod laid;
 mod law;
 mod links;
 mod look;
@@ -27,6 +28,7 @@ mod mention;
 mod named;
 mod node;
 mod numbers;
+mod order;
 mod origins;
 mod room;
 mod settle;
@@ -35,6 +37,7 @@ mod table;
 mod target;
 #[cfg(test)]
 mod tests;
+mod text;
 mod undefined;
 
 pub use fault::{LinkFault, LinkKind};

@@ -2,6 +2,8 @@ ghost use Rattle.std.specs.Prelude.{◌≡◌, ◌≢◌, ◌++◌, ◌∷◌, [
 ghost use Rattle.flight_link.specs.Looking.{IsSeen};
 ghost use Rattle.flight_value.specs.Graph.{IsValid};
 ghost use Rattle.flight_value.specs.Store.{DrawOneGraph, of_graph};
+ghost use Rattle.flight_value.specs.declared.graph.Graph.{Graph};
+ghost use Rattle.flight_graph.specs.Text.{text_of};
 ghost use Rattle.flight_place.specs.Meaning.{meaning};
 ghost use Rattle.flight_place.specs.Linked.{rows_of, FollowOn};
 ghost use Rattle.flight_place.specs.Good.{IsLeastUndefined};
@@ -22,7 +24,7 @@ use crate::table::Table;
 use flight_place::{PlaceTree, PlacedRow};
 use flight_row::RowKind;
 use flight_text::Ref;
-use flight_value::{Graph, List, Memory};
+use flight_value::{Graph, List, Memory, Text};
 use std::alloc::Global;
 use std::marker::Model;
 
@@ -122,6 +124,20 @@ impl Links {
             },
         };
         self.table.graph(whole, alloc)
+    }
+
+    /// The canonical text of what the rows mean: that of [`Links::graph`], which is not built.
+    pub fn text(&self, alloc: Global) -> Result<Text, Memory>
+        ensures { IfOk result (λ t. (g : Graph) × IsValid g × DrawOneGraph (of_graph g) (meaning self.now) × (t ≡ text_of g)) }
+    {
+        let whole = Whole {
+            states: self.states.as_slice(),
+            bases: Bases {
+                before: self.before.as_slice(),
+                total: self.total,
+            },
+        };
+        self.table.text(whole, alloc)
     }
 
     /// For each node of the canon of [`Links::graph`], in order, the id of the row that holds it: of the row of its

@@ -1,4 +1,4 @@
-ghost use Rattle.std.specs.Prelude.{◌≡◌, ◌≤◌, ◌<◌, [], IfOk, OnOk, List, length, slice_get, Some, ℕ, nat_eq, cond};
+ghost use Rattle.std.specs.Prelude.{◌≡◌, ◌≤◌, ◌<◌, ◌^◌, ◌++◌, ◌∷◌, [], IfOk, OnOk, List, length, slice_get, None, Some, ℕ, nat_eq, cond};
 ghost use Rattle.std.specs.HashMap.{get};
 ghost use Rattle.flight_place.specs.declared.place.PlacedRow.{PlacedRow};
 ghost use Rattle.flight_link.specs.Marks.{AreBases};
@@ -28,7 +28,8 @@ pub struct Numbers {
 impl Numbers {
     /// No keys, with room for those of so many places.
     pub fn new(alloc: Global, places: u64) -> Result<Numbers, Memory>
-        ensures { IfOk result (λ n. (rows : List PlacedRow) → places ≡ places_in rows → AreNumbered rows n) }
+        ensures numbered { IfOk result (λ n. (rows : List PlacedRow) → places ≡ places_in rows → AreNumbered rows n) }
+        ensures none { IfOk result (λ n. n.keys.items ≡ []) }
     {
         let Ok(count) = usize::try_from(places) else {
             return Err(Memory);
@@ -67,9 +68,29 @@ impl Table {
         ensures grows { OnOk result (Grows numbers.old.keys.items numbers.new.keys.items) }
         ensures number { IfOk result (λ n. slice_get numbers.new.keys.items n ≡ Some key) }
     {
-        if let Some(number) = self.number_of(bases, numbers, key) {
-            return Ok(number);
+        match self.number_of(bases, numbers, key) {
+            Some(number) => Ok(number),
+            None => self.add_key(bases, numbers, key),
         }
+    }
+
+    /// The next number, for a key that has none.
+    pub fn add_key(
+        &self,
+        bases: Bases<'_>,
+        numbers: &mut Numbers,
+        key: NodeKey,
+    ) -> Result<u32, Memory>
+        requires table { IsTable self.now }
+        requires bases { AreBases self.now.rows.items bases.before.now bases.total }
+        requires key { IsKey self.now.rows.items key }
+        requires numbered { AreNumbered self.now.rows.items numbers.old }
+        requires fresh { its_number self.now.rows.items numbers.old key ≡ None }
+        ensures numbered { OnOk result (AreNumbered self.now.rows.items numbers.new) }
+        ensures keys { OnOk result (numbers.new.keys.items ≡ numbers.old.keys.items ++ key ∷ []) }
+        ensures room { OnOk result (length numbers.old.keys.items < 2 ^ 32) }
+        ensures number { IfOk result (λ n. slice_get numbers.new.keys.items n ≡ Some key) }
+    {
         let Ok(number) = u32::try_from(numbers.keys.len()) else {
             return Err(Memory);
         };
@@ -79,7 +100,8 @@ impl Table {
         Ok(number)
     }
 
-    fn number_of(&self, bases: Bases<'_>, numbers: &Numbers, key: NodeKey) -> Option<u32>
+    /// The number of a key, if it has one.
+    pub fn number_of(&self, bases: Bases<'_>, numbers: &Numbers, key: NodeKey) -> Option<u32>
         requires table { IsTable self.now }
         requires bases { AreBases self.now.rows.items bases.before.now bases.total }
         requires key { IsKey self.now.rows.items key }

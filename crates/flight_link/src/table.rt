@@ -105,7 +105,8 @@ pub fn row_at(rows: &[PlacedRow], index: usize) -> Option<&PlacedRow>
     rows.get(index)
 }
 
-fn place_at(places: &[Place], index: usize) -> Option<&Place>
+/// The place of a number.
+pub fn place_at(places: &[Place], index: usize) -> Option<&Place>
     ensures { option_copied result ≡ slice_get places.now index }
 {
     places.get(index)

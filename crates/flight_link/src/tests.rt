@@ -149,12 +149,13 @@ fn settles_long_chains(rt: HostRuntime) {
     }
 }
 
-/// Whether rows mean a graph of this text.
+/// Whether rows mean a graph of this text, built or not.
 fn means(rt: &HostRuntime, rows: &[(u32, &str)], text: &str) -> Result<bool, LinkFault> {
     let links = linked(rt, rows)?;
     let graph = links.graph(rt.alloc())?;
-    let found = canon_text(rt.alloc(), &graph)?;
-    Ok(found.as_str() == text)
+    let built = canon_text(rt.alloc(), &graph)?;
+    let found = links.text(rt.alloc())?;
+    Ok(built.as_str() == text && found.as_str() == text)
 }
 
 #[test]

@@ -1,6 +1,6 @@
 -- The atoms of a row's places are valid.
 use Rattle.std.proofs.Common.{◌≡◌, ℕ, ◌+◌, ◌-◌, ◌^◌, ◌<◌, List, [], ◌∷◌, ◌++◌, length, refl, subst, sym, arith, true, false, Bool, All, nat_lt}
-use Rattle.std.specs.Prelude.{ℤ, pos, negsuc, if◌then◌else◌, Option, Some, None, option_and_then, ◌==◌}
+use Rattle.std.specs.Prelude.{pos, negsuc, if◌then◌else◌, Option, Some, None, option_and_then, ◌==◌}
 use Rattle.std.specs.List.{AllByRecursion}
 use Rattle.std.proofs.lemmas.Bool.{ltb-true}
 use lib.Dec.{le→leb}
@@ -10,8 +10,6 @@ use Rattle.serde_json.specs.Read.{read}
 use Rattle.serde_json.specs.Written.{compact_text}
 use Rattle.flight_text.specs.Whole.{whole_of, has_whole_numbers}
 use Rattle.flight_text.specs.Mark.{IsSpelling}
-use Rattle.flight_value.specs.Graph.{IsSafe, IsValidAtom}
-use Rattle.flight_value.specs.declared.graph.Atom.{Atom}
 use Rattle.flight_value.specs.declared.graph.Atom.TheVariants as atom
 use Rattle.flight_row.specs.declared.row.Row.{Row}
 use Rattle.flight_row.specs.declared.row.RowKind.{RowKind}
@@ -25,7 +23,7 @@ use Rattle.flight_place.specs.declared.place.Manner.TheVariants.{Wire, Reply}
 use Rattle.flight_place.specs.declared.place.PlaceTree.{PlaceTree}
 use Rattle.flight_place.specs.declared.fault.PlaceKind.TheVariants.{BadModel, Number, BadElement}
 use Rattle.flight_place.specs.Tokens.{place_of}
-use Rattle.flight_place.specs.Places.{Visit, placed, token, faulty, number_visit, is_marked, is_element, element_of, mark_visit, count, item_numbers, member_numbers, visits, element_visits, item_visits, member_visits, HasPlace, HavePlaces}
+use Rattle.flight_place.specs.Places.{Visit, placed, token, faulty, number_visit, is_marked, is_element, element_of, mark_visit, count, item_numbers, visits, element_visits, item_visits, member_visits, HasPlace, HavePlaces}
 use Rattle.flight_place.specs.Rows.{model_visits, digest_of, import_visit, failed_visit, row_visits, IsTree}
 use Rattle.flight_place.specs.Parts.{HasValidAtom}
 

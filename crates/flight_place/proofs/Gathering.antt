@@ -1,6 +1,5 @@
 -- Members in a list or a map, beside the members that they stand for.
-use Rattle.std.proofs.Common.{◌≡◌, ℕ, zero, suc, ◌+◌, ◌<◌, ◌≤◌, List, [], ◌∷◌, ◌++◌, length, take, drop, slice_index_or, slice_set, Bor, refl, sym, ap, subst, ◌∙◌, arith, append_assoc, append-nil, Ordering, Less, Equal, Greater, nat_cmp, is_lt, true}
-use Rattle.std.proofs.lemmas.Bool.{false≢true}
+use Rattle.std.proofs.Common.{◌≡◌, ℕ, zero, suc, ◌+◌, ◌<◌, ◌≤◌, List, [], ◌∷◌, ◌++◌, length, take, drop, slice_index_or, slice_set, Bor, refl, sym, ap, subst, ◌∙◌, arith, append_assoc, append-nil, Ordering, Less, Equal, Greater, nat_cmp}
 use Rattle.std.specs.List.{insert}
 use Rattle.std.proofs.lemmas.Cmp.{nat_list_cmp_total}
 use Rattle.std.specs.Cmp.Lexicographic.{slice_cmp}
@@ -16,15 +15,6 @@ Entry = Bor (List ℕ) × Parsed
 
 -- ---- a name behind all others
 
-pub each-below : (xs : List Entry) (x : Entry) (k : List ℕ) (n : ℕ) → length xs ≡ suc n → OrderedMembers (members_data xs) → x ≡ slice_index_or xs n x → slice_cmp nat_cmp x.0.now k ≡ Less → EachBelow (members_data xs) k
-each-below [] x k n len h is less = absurd (omega (arith, len))
-each-below (a ∷ []) x k zero len h is less = (subst (λ e. slice_cmp nat_cmp e.0.now k ≡ Less) is less, tt)
-each-below (a ∷ []) x k (suc n) len h is less = absurd (omega (arith, len))
-each-below (a ∷ b ∷ xs) x k zero len h is less = absurd (omega (arith, len))
-each-below (a ∷ b ∷ xs) x k (suc n) len h is less =
-    let rest = each-below (b ∷ xs) x k n (omega (arith, len)) h.1 is less in
-    (nat_list_cmp_total.trans a.0.now b.0.now k h.0.0 rest.0, rest)
-
 pub put-behind : (xs : List Entry) (k : Bor (List ℕ)) (p : Parsed) → EachBelow (members_data xs) k.now → put k.now (data_of p) (members_data xs) ≡ members_data (xs ++ (k, p) ∷ [])
 put-behind [] k p h = refl
 put-behind (x ∷ xs) k p h =
@@ -33,13 +23,35 @@ put-behind (x ∷ xs) k p h =
 
 -- ---- in a list
 
-above-more : (k : List ℕ) (xs : List Entry) (i : ℕ) (x : Entry) → i < length xs → x ≡ slice_index_or xs i x → AreBelow k (members_data (take i xs)) → slice_cmp nat_cmp k x.0.now ≡ Greater → AreBelow k (members_data (take (suc i) xs))
+-- a name is below one that stands behind it
+below-at : (y : List ℕ) (xs : List Entry) (i : ℕ) (x : Entry) → i < length xs → x ≡ slice_index_or xs i x → Below y (names (members_data xs)) → slice_cmp nat_cmp y x.0.now ≡ Less
+below-at y [] i x within is h = absurd (omega arith)
+below-at y (z ∷ xs) zero x within is h = subst (λ e. slice_cmp nat_cmp y e.0.now ≡ Less) (sym is) h.0
+below-at y (z ∷ xs) (suc i) x within is h = below-at y xs i x (omega (arith, within)) is h.1
+
+above-below : (k y z : List ℕ) → slice_cmp nat_cmp y z ≡ Less → slice_cmp nat_cmp k z ≡ Greater → slice_cmp nat_cmp k y ≡ Greater
+above-below k y z less greater =
+    let below : slice_cmp nat_cmp z k ≡ Less = nat_list_cmp_total.antisymm z k ∙ ap ordering_reverse greater in
+    nat_list_cmp_total.antisymm k y ∙ ap ordering_reverse (nat_list_cmp_total.trans y z k less below)
+
+above-more : (k : List ℕ) (xs : List Entry) (i : ℕ) (x : Entry) → i < length xs → x ≡ slice_index_or xs i x → OrderedMembers (members_data xs) → slice_cmp nat_cmp k x.0.now ≡ Greater → AreBelow k (members_data (take (suc i) xs))
 above-more k [] i x within is h greater = absurd (omega arith)
 above-more k (y ∷ xs) zero x within is h greater = (subst (λ e. slice_cmp nat_cmp k e.0.now ≡ Greater) is greater, tt)
-above-more k (y ∷ xs) (suc i) x within is h greater = (h.0, above-more k xs i x (omega (arith, within)) is h.1 greater)
+above-more k (y ∷ xs) (suc i) x within is h greater =
+    (above-below k y.0.now x.0.now (below-at y.0.now xs i x (omega (arith, within)) is h.0) greater, above-more k xs i x (omega (arith, within)) is h.1 greater)
 
-pub above-one_more : (k : List ℕ) (xs : List Entry) (i : ℕ) (x : Entry) → i < length xs → x ≡ slice_index_or xs i x → AreBelow k (members_data (take i xs)) → slice_cmp nat_cmp k x.0.now ≡ Greater → AreBelow k (members_data (take (i + 1) xs))
+-- a name that is above one in order is above all before it
+pub above-one_more : (k : List ℕ) (xs : List Entry) (i : ℕ) (x : Entry) → i < length xs → x ≡ slice_index_or xs i x → OrderedMembers (members_data xs) → slice_cmp nat_cmp k x.0.now ≡ Greater → AreBelow k (members_data (take (i + 1) xs))
 above-one_more k xs i x within is h greater = let next : suc i ≡ i + 1 = omega arith in subst (λ n. AreBelow k (members_data (take n xs))) next (above-more k xs i x within is h greater)
+
+-- and so is one that is the same
+pub above-before : (k : List ℕ) (xs : List Entry) (i : ℕ) (x : Entry) → i < length xs → x ≡ slice_index_or xs i x → OrderedMembers (members_data xs) → slice_cmp nat_cmp k x.0.now ≡ Equal → AreBelow k (members_data (take i xs))
+above-before k [] i x within is h equal = absurd (omega arith)
+above-before k (y ∷ xs) zero x within is h equal = tt
+above-before k (y ∷ xs) (suc i) x within is h equal =
+    let less = below-at y.0.now xs i x (omega (arith, within)) is h.0 in
+    let greater : slice_cmp nat_cmp x.0.now y.0.now ≡ Greater = nat_list_cmp_total.antisymm x.0.now y.0.now ∙ ap ordering_reverse less in
+    (nat_list_cmp_total.congr k x.0.now y.0.now equal ∙ greater, above-before k xs i x (omega (arith, within)) is h.1 equal)
 
 pub is-first : (k : List ℕ) (xs : List Entry) (i : ℕ) (x : Entry) → i < length xs → x ≡ slice_index_or xs i x → slice_cmp nat_cmp k x.0.now ≡ Equal → IsFirst k (members_data (drop i xs))
 is-first k [] i x within is equal = absurd (omega arith)
@@ -105,11 +117,6 @@ put_each-behind (x ∷ xs) done h =
 
 pub put_each-ordered : (xs : List Entry) → OrderedMembers (members_data xs) → put_each xs no_members ≡ members_data xs
 put_each-ordered xs h = put_each-behind xs [] h
-
-pub less : (o : Ordering) → is_lt o ≡ true → o ≡ Less
-less Less h = refl
-less Equal h = absurd (false≢true h)
-less Greater h = absurd (false≢true h)
 
 pub no_entries : (xs : List Entry) → length xs ≡ 0 → xs ≡ []
 no_entries [] none = refl

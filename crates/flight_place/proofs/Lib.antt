@@ -15,6 +15,7 @@ pub mod Undefined
 pub mod Rooted
 pub mod Parsing
 pub mod Gathering
+pub mod Digits
 pub mod Turns
 pub mod OneByOne
 pub mod Told

@@ -1,5 +1,5 @@
 -- What a row tells: none of its places is an atom of which nothing is known.
-use Rattle.std.proofs.Common.{◌≡◌, ◌≢◌, ℕ, ◌+◌, List, [], ◌∷◌, ◌++◌, length, refl, sym, subst, true, false, Bool, All}
+use Rattle.std.proofs.Common.{ℕ, ◌+◌, List, [], ◌∷◌, ◌++◌, length, sym, subst, true, false, Bool, All}
 use Rattle.std.specs.Prelude.{ℤ, if◌then◌else◌, Option, Some, None, option_and_then, ◌==◌}
 use Rattle.std.specs.List.{AllByRecursion}
 use Rattle.std.proofs.lemmas.List.Elements.{All-from_recursion}
@@ -20,8 +20,8 @@ use Rattle.flight_place.specs.declared.place.Manner.TheVariants.{Wire, Reply}
 use Rattle.flight_place.specs.declared.place.PlaceTree.{PlaceTree}
 use Rattle.flight_place.specs.declared.fault.PlaceKind.TheVariants.{BadModel, Number, BadElement}
 use Rattle.flight_place.specs.Tokens.{place_of}
-use Rattle.flight_place.specs.Places.{Visit, placed, token, faulty, number_visit, is_marked, is_element, element_of, mark_visit, count, item_numbers, member_numbers, visits, array_visits, marked_visits, element_visits, item_visits, member_visits, HasPlace, HavePlaces}
-use Rattle.flight_place.specs.Rows.{model_visits, digest_of, import_visit, failed_visit, error_visit, row_visits, IsTree}
+use Rattle.flight_place.specs.Places.{Visit, placed, token, faulty, number_visit, is_marked, is_element, element_of, mark_visit, count, item_numbers, member_numbers, visits, array_visits, element_visits, item_visits, member_visits, HasPlace, HavePlaces}
+use Rattle.flight_place.specs.Rows.{model_visits, digest_of, import_visit, failed_visit, row_visits, IsTree}
 use Rattle.flight_place.specs.Parts.{IsTold}
 
 -- the place of a visit is told

@@ -1,12 +1,15 @@
-ghost use Rattle.std.specs.Prelude.{◌≡◌, ◌≤◌, ◌<◌, IfOk, IfErr, OnOk, IsTrue, length, take, drop};
+ghost use Rattle.std.specs.Prelude.{◌≡◌, ◌≤◌, ◌<◌, IfOk, IfErr, OnOk, length, take, drop};
+ghost use Rattle.std.specs.Ordering.{nat_cmp};
+ghost use Rattle.std.specs.Cmp.Lexicographic.{slice_cmp};
 ghost use Rattle.serde_json.specs.Data.{put, no_members};
 ghost use Rattle.flight_text.specs.Ordered.{OrderedMembers};
-ghost use Rattle.flight_place.specs.Parsed.{data_of, members_data, gathered_data, EachBelow, AreBelow, IsBelowFirst, IsFirst, with_value};
+ghost use Rattle.flight_place.specs.Parsed.{data_of, members_data, gathered_data, AreBelow, IsBelowFirst, IsFirst, with_value};
 
 use crate::parsed::Parsed;
 use std::alloc::{AllocError, Global};
 use std::cmp::Ordering;
 use std::collections::BTreeMap;
+use std::mem;
 
 /// More members than these, in no order, are kept in a map.
 const FEW: usize = 16;
@@ -26,20 +29,38 @@ impl<'a> Gathered<'a> {
         Gathered::Listed(Vec::new(alloc))
     }
 
-    /// With one more member, whose value takes the place of an earlier one of its name.
-    pub fn with(
-        self,
-        alloc: Global,
-        name: &'a str,
-        value: Parsed<'a>,
-    ) -> Result<Gathered<'a>, AllocError>
-        requires { OrderedMembers (gathered_data self) }
-        ensures { IfOk result (λ g. gathered_data g ≡ put name.now (data_of value.entry) (gathered_data self.entry)) }
+    /// Puts a member in, whose value takes the place of an earlier one of its name.
+    pub fn put(&mut self, alloc: Global, name: &'a str, value: Parsed<'a>) -> Result<(), AllocError>
+        requires { OrderedMembers (gathered_data self.old) }
+        ensures { OnOk result (gathered_data self.new ≡ put name.now (data_of value.entry) (gathered_data self.old)) }
     {
-        match self {
-            Gathered::Listed(list) => in_list(alloc, list, name, value),
-            Gathered::Mapped(map) => Ok(Gathered::Mapped(in_map(map, name, value)?)),
+        if self.needs_map(name) {
+            self.make_map(alloc)?;
         }
+        match self {
+            Gathered::Listed(list) => insert(list, name, value),
+            Gathered::Mapped(map) => insert_in_map(map, name, value),
+        }
+    }
+
+    /// Whether many members would have to be searched one by one for a name.
+    fn needs_map(&self, name: &str) -> bool {
+        match self {
+            Gathered::Listed(list) => list.len() > FEW && !is_behind(list.as_slice(), name),
+            Gathered::Mapped(_) => false,
+        }
+    }
+
+    /// Moves the members to a map.
+    fn make_map(&mut self, alloc: Global) -> Result<(), AllocError>
+        requires { OrderedMembers (gathered_data self.old) }
+        ensures { OnOk result (gathered_data self.new ≡ gathered_data self.old) }
+    {
+        *self = match mem::replace(self, Gathered::new(alloc)) {
+            Gathered::Listed(list) => Gathered::Mapped(mapped(alloc, list)?),
+            Gathered::Mapped(map) => Gathered::Mapped(map),
+        };
+        Ok(())
     }
 
     pub fn into_list(self, alloc: Global) -> Result<Vec<(&'a str, Parsed<'a>)>, AllocError>
@@ -52,34 +73,8 @@ impl<'a> Gathered<'a> {
     }
 }
 
-/// A list with one more member.
-fn in_list<'a>(
-    alloc: Global,
-    list: Vec<(&'a str, Parsed<'a>)>,
-    name: &'a str,
-    value: Parsed<'a>,
-) -> Result<Gathered<'a>, AllocError>
-    requires { OrderedMembers (members_data list.items) }
-    ensures { IfOk result (λ g. gathered_data g ≡ put name.now (data_of value.entry) (members_data list.entry.items)) }
-{
-    let mut list = list;
-    if is_behind(list.as_slice(), name) {
-        list.push((name, value))?;
-        Ok(Gathered::Listed(list))
-    } else if list.len() <= FEW {
-        insert(&mut list, name, value)?;
-        Ok(Gathered::Listed(list))
-    } else {
-        let map = mapped(alloc, list)?;
-        Ok(Gathered::Mapped(in_map(map, name, value)?))
-    }
-}
-
 /// Whether a name is behind all these.
-fn is_behind(list: &[(&str, Parsed<'_>)], name: &str) -> bool
-    requires { OrderedMembers (members_data list.now) }
-    ensures { IsTrue result → EachBelow (members_data list.now) name.now }
-{
+fn is_behind(list: &[(&str, Parsed<'_>)], name: &str) -> bool {
     match list {
         [.., last] => last.0 < name,
         _ => true,
@@ -92,6 +87,7 @@ fn insert<'a>(
     name: &'a str,
     value: Parsed<'a>,
 ) -> Result<(), AllocError>
+    requires { OrderedMembers (members_data list.old.items) }
     ensures { OnOk result (members_data list.new.items ≡ put name.now (data_of value.entry) (members_data list.old.items)) }
 {
     match position(list.as_slice(), name) {
@@ -106,19 +102,32 @@ fn insert<'a>(
     }
 }
 
-/// Where a name stands in a list, or where it belongs.
+/// Where a name stands in a list, or where it belongs. It is looked for from the end, since names often come nearly in
+/// order.
 fn position(list: &[(&str, Parsed<'_>)], name: &str) -> Result<usize, usize>
+    requires { OrderedMembers (members_data list.now) }
     ensures stands { IfOk result (λ at. (at < length list.now) × AreBelow name.now (members_data (take at list.now)) × IsFirst name.now (members_data (drop at list.now))) }
     ensures belongs { IfErr result (λ at. (at ≤ length list.now) × AreBelow name.now (members_data (take at list.now)) × IsBelowFirst name.now (members_data (drop at list.now))) }
 {
-    for at in 0..list.len() {
-        match name.cmp(list[at].0) {
-            Ordering::Less => return Err(at),
-            Ordering::Equal => return Ok(at),
-            Ordering::Greater => {}
+    let mut end = list.len();
+    'members: while end > 0 {
+        match order(name, list[end - 1].0) {
+            Ordering::Less => end -= 1,
+            Ordering::Equal => return Ok(end - 1),
+            Ordering::Greater => return Err(end),
         }
     }
-    Err(list.len())
+    Err(0)
+}
+
+/// How two names stand by their bytes. Most differ in the first, and need no look at the others.
+fn order(name: &str, other: &str) -> Ordering
+    ensures { result ≡ slice_cmp nat_cmp name.now other.now }
+{
+    match (name.as_bytes(), other.as_bytes()) {
+        ([a, ..], [b, ..]) if a != b => a.cmp(b),
+        _ => name.cmp(other),
+    }
 }
 
 /// Gives a member another value.
@@ -129,17 +138,16 @@ fn replace<'a>(list: &mut Vec<(&'a str, Parsed<'a>)>, at: usize, value: Parsed<'
     list[at].1 = value;
 }
 
-/// A map with one more member.
-fn in_map<'a>(
-    map: BTreeMap<&'a str, Parsed<'a>>,
+/// Puts a member in a map.
+fn insert_in_map<'a>(
+    map: &mut BTreeMap<&'a str, Parsed<'a>>,
     name: &'a str,
     value: Parsed<'a>,
-) -> Result<BTreeMap<&'a str, Parsed<'a>>, AllocError>
-    ensures { IfOk result (λ m. members_data m.entries ≡ put name.now (data_of value.entry) (members_data map.entry.entries)) }
+) -> Result<(), AllocError>
+    ensures { OnOk result (members_data map.new.entries ≡ put name.now (data_of value.entry) (members_data map.old.entries)) }
 {
-    let mut map = map;
     drop(map.insert(name, value)?);
-    Ok(map)
+    Ok(())
 }
 
 /// A list's members in a map.

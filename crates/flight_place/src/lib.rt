@@ -4,7 +4,8 @@
 //! their bytes. Each value that is visited gets the next number, from 0, and is a [`Place`]: an atom, a
 //! composite that names the places in it, or a reference to another row. [`places`] gives the places of a row, or
 //! the first fault that the walk meets (React 19.0, `parseModel` and `parseModelString` of ReactFlightClient,
-//! read strictly). `specs/Places.antt` has what is visited at each number, and which places stand for that.
+//! read strictly); [`places_with`] does so in memory that is kept from row to row. `specs/Places.antt` has what is
+//! visited at each number, and which places stand for that.
 //!
 //! JSON is read as serde_json reads it, but with no tree of the whole payload: items of an array are placed as they
 //! come, and an object or an element is read first, its texts borrowed, since its members may stand in any order.
@@ -27,9 +28,10 @@ mod tree;
 mod walk;
 
 pub use fault::{PlaceFault, PlaceKind};
+pub use json::Scratch;
 pub use law::{
     names_ascend, numbers_lead_to_places, one_end, one_meaning, one_tree, pairs_stay,
     resolved_stays, steps_go_on, walks_on,
 };
 pub use place::{Manner, Named, Place, PlaceTree, PlacedRow};
-pub use tree::places;
+pub use tree::{places, places_with};

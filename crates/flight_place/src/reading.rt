@@ -162,7 +162,7 @@ fn read_members<'a>(
     let mut found = Gathered::new(alloc);
     'members: while let Some(name) = reader.next_key()? {
         let member = read_value(alloc, reader, levels)?;
-        found = found.with(alloc, name, member)?;
+        found.put(alloc, name, member)?;
     }
     Ok(found.into_list(alloc)?)
 }

@@ -7,7 +7,7 @@ ghost use Rattle.flight_place.specs.Faults.{Refuses};
 use crate::fault::{PlaceFault, PlaceKind};
 use crate::place::{Manner, Place};
 use flight_text::{Mark, Marked, read_mark};
-use flight_value::{Atom, Memory, Text};
+use flight_value::{Atom, Memory, Text, Wide};
 use std::alloc::Global;
 
 /// The place of a string.
@@ -70,7 +70,7 @@ pub fn mark_place(alloc: Global, mark: Mark) -> Result<Place, Memory>
         Mark::Set(place) => Place::Set(place),
         Mark::Action(id) => Place::Action(id),
         Mark::Date(date) => Place::Atom(Atom::Date(date)),
-        Mark::Big(number) => Place::Atom(Atom::Big(number)),
+        Mark::Big(number) => Place::Atom(Atom::Big(Wide::new(number))),
         Mark::Symbol(name) => Place::Atom(Atom::Symbol(name)),
         Mark::Undefined => Place::Atom(Atom::Undefined),
         Mark::Constant(constant) => Place::Atom(Atom::Constant(constant)),

@@ -28,7 +28,22 @@ pub fn places(alloc: Global, row: &Row, manner: Manner) -> Result<PlaceTree, Pla
     ensures tree { IfOk result (IsTree manner row.now) }
     ensures fault { IfErr result (Refuses manner (row_visits manner row.now.kind row.now.payload)) }
 {
-    let places = payload_places(alloc, manner, row.kind, utf8(row.payload.as_slice()))?;
+    places_with(alloc, &mut Scratch::new(alloc), row, manner)
+}
+
+/// The same, read in memory that is kept from row to row: to make it anew costs more than to read a small row.
+pub fn places_with(
+    alloc: Global,
+    scratch: &mut Scratch,
+    row: &Row,
+    manner: Manner,
+) -> Result<PlaceTree, PlaceFault>
+    requires { IsUtf8 row.now.payload }
+    ensures tree { IfOk result (IsTree manner row.now) }
+    ensures fault { IfErr result (Refuses manner (row_visits manner row.now.kind row.now.payload)) }
+{
+    let payload = utf8(row.payload.as_slice());
+    let places = payload_places(alloc, scratch, manner, row.kind, payload)?;
     Ok(PlaceTree {
         kind: row.kind,
         places: List::new(places),
@@ -40,16 +55,15 @@ fn utf8(bytes: &[u8]) -> &str
     requires { IsUtf8 bytes.now }
     ensures { result.now ≡ bytes.now }
 {
-    match str::from_utf8(bytes) {
-        Ok(text) => text,
-        Err(_) => "",
-    }
+    // SAFETY: the clause asks for UTF-8.
+    unsafe { str::from_utf8_unchecked(bytes) }
 }
 
 /// The places of a payload, by the kind of its row.
 #[tactic(auto, using(crate::proofs::Trees::single_has, crate::proofs::Trees::single_refuses))]
 fn payload_places(
     alloc: Global,
+    scratch: &mut Scratch,
     manner: Manner,
     kind: RowKind,
     payload: &str,
@@ -58,7 +72,7 @@ fn payload_places(
     ensures err { IfErr result (Refuses manner (row_visits manner kind payload.now)) }
 {
     match kind {
-        RowKind::Model => model_places(alloc, manner, payload),
+        RowKind::Model => model_places(alloc, scratch, manner, payload),
         RowKind::Import => single(alloc, import_place(alloc, payload)?),
         RowKind::Error => single(alloc, error_place(alloc, payload)?),
         RowKind::Text => single(alloc, text_place(alloc, payload)?),
@@ -73,7 +87,7 @@ fn payload_places(
             if payload.is_empty() {
                 single(alloc, Place::Atom(Atom::Undefined))
             } else {
-                model_places(alloc, manner, payload)
+                model_places(alloc, scratch, manner, payload)
             }
         }
     }
@@ -90,26 +104,35 @@ fn single(alloc: Global, place: Place) -> Result<Vec<Place>, PlaceFault>
 }
 
 /// The places of a value.
-fn model_places(alloc: Global, manner: Manner, payload: &str) -> Result<Vec<Place>, PlaceFault>
+fn model_places(
+    alloc: Global,
+    scratch: &mut Scratch,
+    manner: Manner,
+    payload: &str,
+) -> Result<Vec<Place>, PlaceFault>
     ensures ok { IfOk result (λ places. HavePlaces manner (model_visits manner (read payload.now)) places.items) }
     ensures err { IfErr result (Refuses manner (model_visits manner (read payload.now))) }
 {
-    match whole(alloc, manner, payload) {
+    match whole(alloc, scratch, manner, payload) {
         Ok(places) => Ok(places),
         Err(Stop::NoJson) => Err(PlaceFault::Fault(PlaceKind::BadModel)),
-        Err(Stop::Fault(kind)) => Err(confirmed(alloc, payload, kind)),
+        Err(Stop::Fault(kind)) => Err(confirmed(alloc, scratch, payload, kind)),
         Err(Stop::Memory) => Err(PlaceFault::Memory),
     }
 }
 
 /// The places of a value behind which nothing stands.
-fn whole(alloc: Global, manner: Manner, payload: &str) -> Result<Vec<Place>, Stop>
+fn whole(
+    alloc: Global,
+    scratch: &mut Scratch,
+    manner: Manner,
+    payload: &str,
+) -> Result<Vec<Place>, Stop>
     ensures ok { IfOk result (λ places. HavePlaces manner (model_visits manner (read payload.now)) places.items) }
     ensures stops { IfErr result (StopsAt manner (read payload.now)) }
 {
-    let mut scratch = Scratch::new(alloc);
-    let mut reader = Reader::new(payload, &mut scratch)?;
-    let mut out = Vec::new(alloc);
+    let mut reader = Reader::new(payload, scratch)?;
+    let mut out = Vec::with_capacity(alloc, room(payload))?;
     place_next(alloc, manner, &mut reader, LEVELS, &mut out)?;
     if reader.next().is_some() {
         return Err(Stop::NoJson);
@@ -117,11 +140,16 @@ fn whole(alloc: Global, manner: Manner, payload: &str) -> Result<Vec<Place>, Sto
     Ok(tight(alloc, out)?)
 }
 
+/// Room for so many places as a small payload may have, so that none of them moves.
+fn room(payload: &str) -> usize {
+    (payload.len() / 8 + 1).min(FEW)
+}
+
 /// The same places, with no room left behind them where they are few: most rows are small, and all are kept.
 fn tight(alloc: Global, mut places: Vec<Place>) -> Result<Vec<Place>, AllocError>
     ensures { IfOk result (λ kept. kept.items ≡ places.items) }
 {
-    if places.len() > FEW {
+    if places.len() > FEW || places.len() == places.capacity() {
         return Ok(places);
     }
     let mut kept = Vec::with_capacity(alloc, places.len())?;
@@ -130,10 +158,10 @@ fn tight(alloc: Global, mut places: Vec<Place>) -> Result<Vec<Place>, AllocError
 }
 
 /// A fault that is the first of a payload if that is JSON.
-fn confirmed(alloc: Global, payload: &str, kind: PlaceKind) -> PlaceFault
+fn confirmed(alloc: Global, scratch: &mut Scratch, payload: &str, kind: PlaceKind) -> PlaceFault
     ensures { IsConfirmed kind (read payload.now) result }
 {
-    match parse(alloc, payload, &mut Scratch::new(alloc)) {
+    match parse(alloc, payload, scratch) {
         Ok(_) => PlaceFault::Fault(kind),
         Err(fault) => fault,
     }

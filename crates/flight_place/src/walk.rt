@@ -1,4 +1,4 @@
-ghost use Rattle.std.specs.Prelude.{◌≡◌, ◌+◌, ◌++◌, ◌∷◌, [], ◌↔◌, ◌<◌, true, length, IfOk, IfErr, OnOk, IsTrue, slice_set, drop};
+ghost use Rattle.std.specs.Prelude.{◌≡◌, ◌+◌, ◌++◌, ◌∷◌, [], ◌↔◌, ◌<◌, true, length, IfOk, IfErr, OnOk, IsTrue, slice_set, drop, vec_len, vec_capacity};
 ghost use Rattle.flight_place.specs.Parsed.{data_of, items_data, members_data};
 ghost use Rattle.flight_place.specs.Places.{is_mark, is_marked, is_key, mark_visit, count, item_count, member_count, item_numbers, member_numbers, visits, array_visits, marked_visits, object_visits, item_visits, member_visits, token};
 ghost use Rattle.flight_place.specs.Faults.{Refuses, Adds};
@@ -208,9 +208,35 @@ pub fn push(out: &mut Vec<Place>, place: Place) -> Result<u32, PlaceFault>
     ensures ok { OnOk result (out.new.items ≡ out.old.items ++ place ∷ []) }
     ensures err { IfErr result (λ e. e ≡ PlaceFault.Memory) }
 {
+    match next_room(out) {
+        Ok(number) => {
+            out.push_reserved(place);
+            Ok(number)
+        }
+        Err(fault) => {
+            discard(place);
+            Err(fault)
+        }
+    }
+}
+
+/// The next place's number, with room for it.
+fn next_room(out: &mut Vec<Place>) -> Result<u32, PlaceFault>
+    ensures number { IfOk result (λ n. n ≡ length out.old.items) }
+    ensures room { OnOk result (vec_len out.new < vec_capacity out.new) }
+    ensures kept { out.new.items ≡ out.old.items }
+    ensures err { IfErr result (λ e. e ≡ PlaceFault.Memory) }
+{
     let number = next_number(out.as_slice())?;
-    out.push(place)?;
+    out.reserve(1)?;
     Ok(number)
+}
+
+/// Drops a place for which there was no room. It stands apart, so that what is done for each place stays small.
+#[cold]
+#[inline(never)]
+fn discard(place: Place) {
+    drop(place);
 }
 
 /// Adds the place of a string, and gives its number.

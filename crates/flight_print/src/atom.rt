@@ -16,7 +16,7 @@ pub fn write_atom(out: &mut String, atom: &Atom) -> Result<(), Memory>
         Atom::Bool(true) => write_word(out, "true"),
         Atom::Bool(false) => write_word(out, "false"),
         Atom::Whole(number) => write_whole(out, *number),
-        Atom::Big(number) => write_big(out, *number),
+        Atom::Big(number) => write_big(out, number.get()),
         Atom::Text(text) => write_literal(out, text),
         Atom::Date(date) => {
             write_word(out, "date")?;

@@ -1,8 +1,9 @@
 ghost use Rattle.std.specs.Prelude.{◌≡◌, ◌++◌, OnOk, string_bytes};
 ghost use Rattle.std.specs.Fmt.{signed_decimal};
+ghost use Rattle.flight_graph.specs.Text.{string_text};
 ghost use Rattle.flight_print.specs.Text.{word, literal, comma_if};
 
-use flight_graph::write_string;
+use flight_graph::{Writer, write_string};
 use flight_value::{Memory, Text};
 use itoa::{Buffer, Integer};
 
@@ -19,8 +20,18 @@ pub fn write_word(out: &mut String, text: &str) -> Result<(), Memory>
 pub fn write_literal(out: &mut String, text: &Text) -> Result<(), Memory>
     ensures { OnOk result (string_bytes out.new ≡ string_bytes out.old ++ literal text.now) }
 {
-    write_string(out, text.as_str())?;
+    write_quoted(out, text.as_str())?;
     out.push_str(" ")?;
+    Ok(())
+}
+
+/// Appends a text as a JSON string.
+fn write_quoted(out: &mut String, text: &str) -> Result<(), Memory>
+    ensures { OnOk result (string_bytes out.new ≡ string_bytes out.old ++ string_text text.now) }
+{
+    let mut quoted = Writer::new(*out.allocator());
+    write_string(&mut quoted, text)?;
+    out.push_str(quoted.into_text()?.as_str())?;
     Ok(())
 }
 

@@ -8,7 +8,7 @@ ghost use Rattle.flight_script.specs.Answer.{Answers};
 
 use crate::unfit::Unfit;
 use flight_text::{Mark, Marked, Ref, read_mark, whole};
-use flight_value::{Atom, List, Slot};
+use flight_value::{Atom, List, Slot, Wide};
 use serde_json::Value;
 use std::alloc::Global;
 
@@ -50,7 +50,7 @@ fn mark_slot(mark: Mark, count: u32) -> Option<Slot>
         Mark::Plain(text) => Some(Slot::Atom(Atom::Text(text))),
         Mark::Value(place) => node_slot(&place, count),
         Mark::Date(date) => Some(Slot::Atom(Atom::Date(date))),
-        Mark::Big(number) => Some(Slot::Atom(Atom::Big(number))),
+        Mark::Big(number) => Some(Slot::Atom(Atom::Big(Wide::new(number)))),
         Mark::Symbol(name) => Some(Slot::Atom(Atom::Symbol(name))),
         Mark::Undefined => Some(Slot::Atom(Atom::Undefined)),
         Mark::Constant(constant) => Some(Slot::Atom(Atom::Constant(constant))),

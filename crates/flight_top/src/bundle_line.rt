@@ -3,7 +3,7 @@ ghost use Rattle.flight_graph.specs.Text.{string_text};
 ghost use Rattle.flight_top.specs.BundleLines.{at_place, lex_words, program_words, node_words, script_words, bundle_words, bundle_line};
 
 use flight_bundle::BundleFault;
-use flight_graph::write_string;
+use flight_graph::{Writer, write_string};
 use flight_parse::ParseFault;
 use flight_script::ScriptFault;
 use flight_syntax::LexKind;
@@ -93,8 +93,11 @@ fn write_at(out: &mut String, word: &str, at: u32) -> Result<(), Memory>
 fn write_named(out: &mut String, word: &str, name: &Text) -> Result<(), Memory>
     ensures { OnOk result (string_bytes out.new ≡ string_bytes out.old ++ (word.now ++ string_text name.now)) }
 {
+    let mut piece = Writer::new(*out.allocator());
+    write_string(&mut piece, name.as_str())?;
     out.push_str(word)?;
-    write_string(out, name.as_str())
+    out.push_str(piece.into_text()?.as_str())?;
+    Ok(())
 }
 
 fn write_named_at(out: &mut String, word: &str, name: &Text, at: u32) -> Result<(), Memory>

@@ -6,8 +6,7 @@ use crate::due::{Due, Undue, line};
 use crate::line::refusal_line;
 use crate::told::Status;
 use flight_base::{ReadAll, Source, read_all};
-use flight_client::{ClientFault, decode_stream};
-use flight_graph::canon_text;
+use flight_client::{ClientFault, decode_text};
 use flight_value::{Memory, Text};
 use std::alloc::Global;
 
@@ -35,8 +34,11 @@ fn view_input(alloc: Global, cut: usize, input: &[u8]) -> Result<Due, Undue>
     ensures due { IfOk result (λ due. IsDueView input.now due.status due.text) }
     ensures err { IfErr result (λ e. e ≡ Undue.Memory) }
 {
-    match decode_stream(alloc, cut, input) {
-        Ok(graph) => told(Status::Done, canon_text(alloc, &graph)),
+    match decode_text(alloc, cut, input) {
+        Ok(text) => Ok(Due {
+            status: Status::Done,
+            text,
+        }),
         Err(ClientFault::Memory) => Err(Undue::Memory),
         Err(fault) => told(Status::Stream, refusal_line(alloc, fault)),
     }

@@ -8,7 +8,7 @@ use crate::stop::{Stop, refused, unexpected};
 use crate::terminal::key_constant;
 use crate::tree::Tree;
 use flight_syntax::Keyword;
-use flight_value::Atom;
+use flight_value::{Atom, Wide};
 
 /// An atom of one token that is no keyword.
 pub fn simple_atom(lexemes: &[Lexeme]) -> Result<(Tree, &[Lexeme]), Stop>
@@ -18,7 +18,10 @@ pub fn simple_atom(lexemes: &[Lexeme]) -> Result<(Tree, &[Lexeme]), Stop>
         [Lexeme::Lower(name), rest @ ..] => Ok((Tree::Variable(name.copy()?), rest)),
         [Lexeme::Upper(name), rest @ ..] => Ok((Tree::Client(name.copy()?), rest)),
         [Lexeme::Number(numeral), rest @ ..] => Ok((Tree::Atom(Atom::Whole(numeral.value)), rest)),
-        [Lexeme::Big(numeral), rest @ ..] => Ok((Tree::Atom(Atom::Big(numeral.value)), rest)),
+        [Lexeme::Big(numeral), rest @ ..] => Ok((
+            Tree::Atom(Atom::Big(Wide::new(numeral.value))),
+            rest,
+        )),
         [Lexeme::Literal(value), rest @ ..] => {
             Ok((Tree::Atom(Atom::Text(value.bytes.clone()?)), rest))
         }

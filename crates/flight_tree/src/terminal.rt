@@ -10,7 +10,7 @@ use crate::numeral::Numeral;
 use crate::stop::{Stop, unexpected};
 use crate::word::{key_number, sign_number, spelled};
 use flight_syntax::{Keyword, Op, Punctuator};
-use flight_value::{Atom, Constant, Memory, Text, is_date};
+use flight_value::{Atom, Constant, Memory, Text, Wide, is_date};
 use std::alloc::Global;
 
 /// A mark.
@@ -154,7 +154,7 @@ pub fn negative(lexemes: &[Lexeme]) -> Result<(Atom, &[Lexeme]), Stop>
             Ok((Atom::Constant(Constant::MinusInfinity), rest))
         }
         [Lexeme::Number(numeral), rest @ ..] => Ok((minus(numeral), rest)),
-        [Lexeme::Big(numeral), rest @ ..] => Ok((Atom::Big(-numeral.value), rest)),
+        [Lexeme::Big(numeral), rest @ ..] => Ok((Atom::Big(Wide::new(-numeral.value)), rest)),
         _ => Err(unexpected(lexemes)),
     }
 }

@@ -1,3 +1,4 @@
 pub mod Date
 pub mod Graph
 pub mod Store
+pub mod Held

@@ -3,6 +3,7 @@ ghost use Rattle.std.specs.Prelude.{◌≡◌, IfOk};
 use crate::list::List;
 use crate::memory::Memory;
 use crate::text::Text;
+use crate::wide::Wide;
 
 /// A number that JSON cannot spell (React 19.0, `$NaN`, `$Infinity`, `$-Infinity`, `$-0`).
 #[derive(Clone, Copy, Debug, PartialEq, Eq)]
@@ -21,7 +22,7 @@ pub enum Atom {
     Bool(bool),
     /// From −(2^53−1) to 2^53−1 in a valid graph.
     Whole(i64),
-    Big(i128),
+    Big(Wide),
     Text(Text),
     /// Of the form that `is_date` tests, in a valid graph.
     Date(Text),

@@ -21,6 +21,7 @@ mod shared;
 #[cfg(test)]
 mod tests;
 mod text;
+mod wide;
 
 pub use date::is_date;
 pub use graph::{Atom, Constant, End, Flow, Graph, Node, Pair, Prop, Slot};
@@ -31,3 +32,4 @@ pub use memory::Memory;
 pub use name::Name;
 pub use shared::Shared;
 pub use text::Text;
+pub use wide::Wide;

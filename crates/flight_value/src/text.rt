@@ -2,29 +2,50 @@ ghost use Rattle.std.specs.Prelude.{◌≡◌, IfOk, nat_eq, string_bytes};
 ghost use Rattle.std.specs.Cmp.Lexicographic.{pointwise, nat_list_eq_equiv};
 ghost use Rattle.std.specs.Cmp.{partial_equiv_from_equiv};
 ghost use Rattle.std.specs.Cmp.Rules.{hashing};
+ghost use Rattle.std.specs.Fmt.{debug_str};
 ghost use Rattle.std.specs.Hash as hashed;
 ghost use Rattle.std.proofs.Common.{rules};
 
 use crate::memory::Memory;
+use arrayvec::ArrayString;
 use std::alloc::{AllocError, Global};
+use std::fmt;
 use std::hash::{Hash, Hasher};
 use std::marker::Model;
 
+/// How many bytes of a text lie in the value itself.
+const INLINE: usize = 16;
+
+/// Where a text lies: most names and values are short, and these take no memory of their own.
+#[derive(Drop)]
+enum Held {
+    Short(ArrayString<INLINE>),
+    Long(String),
+}
+
 /// A text, which contracts see as its bytes. The bytes are UTF-8.
-#[derive(Debug, Drop)]
 pub struct Text {
-    text: String,
+    held: Held,
+}
+
+impl Drop for Text {
+    /// Where a text lies is no matter to who drops it.
+    fn drop(self) {
+        let Text { held } = self;
+        drop(held);
+    }
 }
 
 impl Model for Text {
-    ghost use Rattle.std.specs.Prelude.{List, ℕ, string_bytes};
+    ghost use Rattle.std.specs.Prelude.{List, ℕ};
+    ghost use Rattle.flight_value.specs.Held.{bytes_of};
     ghost use Rattle.std.specs.Coded.{coded_list, coded_ℕ};
 
     ghost Value = { List ℕ };
 
     ghost coded = { coded_list coded_ℕ };
 
-    ghost view = { λ t. string_bytes t.text };
+    ghost view = { λ t. bytes_of t.held };
 }
 
 impl Text {
@@ -32,23 +53,35 @@ impl Text {
     pub fn new(alloc: Global, text: &str) -> Result<Text, Memory>
         ensures { IfOk result (λ t. t ≡ text.now) }
     {
-        Ok(Text {
-            text: String::from_str(alloc, text)?,
-        })
+        let held = match ArrayString::from(text) {
+            Ok(short) => Held::Short(short),
+            Err(_) => Held::Long(String::from_str(alloc, text)?),
+        };
+        Ok(Text { held })
     }
 
-    /// A text that was built already, which is not copied.
+    /// A text that was built already. It is not copied, unless it is short.
     pub fn from_string(text: String) -> Text
         ensures { result ≡ string_bytes text }
     {
-        Text { text }
+        if let Ok(short) = ArrayString::from(text.as_str()) {
+            return Text {
+                held: Held::Short(short),
+            };
+        }
+        Text {
+            held: Held::Long(text),
+        }
     }
 
     /// The text itself.
     pub fn as_str(&self) -> &str
         ensures { result.now ≡ self.now }
     {
-        self.text.as_str()
+        match &self.held {
+            Held::Short(text) => text.as_str(),
+            Held::Long(text) => text.as_str(),
+        }
     }
 }
 
@@ -56,9 +89,19 @@ impl Clone for Text {
     ghost is_clone = { λ s t. t ≡ s };
 
     fn clone(&self) -> Result<Text, AllocError> {
-        Ok(Text {
-            text: self.text.clone()?,
-        })
+        let held = match &self.held {
+            Held::Short(text) => Held::Short(*text),
+            Held::Long(text) => Held::Long(text.clone()?),
+        };
+        Ok(Text { held })
+    }
+}
+
+impl fmt::Debug for Text {
+    ghost debug_output = { debug_str };
+
+    fn fmt<W: fmt::Write>(&self, f: &mut fmt::Formatter<W>) -> fmt::Result {
+        fmt::Debug::fmt(self.as_str(), f)
     }
 }
 
@@ -68,7 +111,7 @@ impl PartialEq for Text {
     ghost laws = { partial_equiv_from_equiv nat_list_eq_equiv };
 
     fn eq(&self, other: &Self) -> bool {
-        self.text == other.text
+        self.as_str() == other.as_str()
     }
 }
 

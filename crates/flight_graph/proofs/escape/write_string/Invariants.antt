@@ -1,4 +1,4 @@
-use Rattle.std.proofs.Common.{◌≡◌, ◌++◌, length, string_bytes}
+use Rattle.std.proofs.Common.{◌≡◌, ◌++◌, length}
 use Rattle.std.specs.List.{flat_map}
 use denote.Text.{Utf8}
 use denote.Shadow.{shadow}
@@ -8,7 +8,7 @@ use Rattle.flight_graph.proofs.escape.write_string.Given as goal
 abbrev pub invariant-loop-at : goal.invariant-loop-at
 invariant-loop-at l = record {
   utf8 : shadow (Utf8 l.rest);
-  so_far : string_bytes l.out ++ flat_map escaped l.rest ≡ string_bytes l.initial.out ++ flat_map escaped l.text;
+  so_far : l.out ++ flat_map escaped l.rest ≡ l.initial.out ++ flat_map escaped l.text;
 }
 
 abbrev pub decreases-loop-at : goal.decreases-loop-at

@@ -1,4 +1,3 @@
-use Rattle.std.proofs.Common.{string_bytes}
 use Rattle.flight_graph.specs.Canon.{map_pair}
 use Rattle.flight_graph.specs.Text.{pair_text}
 use Rattle.flight_graph.specs.Walk.{placed}
@@ -7,5 +6,5 @@ use Rattle.flight_graph.proofs.print.write_pairs.Goals as goal
 
 pub loop-at-preserved : goal.loop-at-preserved
 loop-at-preserved c =
-    commas_more (map_pair (placed c.args.places.now)) pair_text c.args.pairs.now c.loop-at.at c.index-pairs-at.result (string_bytes c.push_str.new.self) (string_bytes c.loop-at.out) (string_bytes c.write_comma.new.out) (string_bytes c.write_pair.new.out)
+    commas_more (map_pair (placed c.args.places.now)) pair_text c.args.pairs.now c.loop-at.at c.index-pairs-at.result c.push_str.new.self c.loop-at.out c.write_comma.new.out c.write_pair.new.out
     c.loop-at-test.true c.index-pairs-at.is c.loop-at.invariant c.in_ok-write_comma.ensures c.in_ok-write_pair.ensures

@@ -1,4 +1,3 @@
-use Rattle.std.proofs.Common.{string_bytes}
 use Rattle.flight_graph.specs.Canon.{map_prop}
 use Rattle.flight_graph.specs.Text.{prop_text}
 use Rattle.flight_graph.specs.Walk.{placed}
@@ -7,5 +6,5 @@ use Rattle.flight_graph.proofs.print.write_props.Goals as goal
 
 pub loop-at-preserved : goal.loop-at-preserved
 loop-at-preserved c =
-    commas_more (map_prop (placed c.args.places.now)) prop_text c.args.props.now c.loop-at.at c.index-props-at.result (string_bytes c.push_str.new.self) (string_bytes c.loop-at.out) (string_bytes c.write_comma.new.out) (string_bytes c.write_prop.new.out)
+    commas_more (map_prop (placed c.args.places.now)) prop_text c.args.props.now c.loop-at.at c.index-props-at.result c.push_str.new.self c.loop-at.out c.write_comma.new.out c.write_prop.new.out
     c.loop-at-test.true c.index-props-at.is c.loop-at.invariant c.in_ok-write_comma.ensures c.in_ok-write_prop.ensures

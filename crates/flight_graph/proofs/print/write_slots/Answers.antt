@@ -1,4 +1,3 @@
-use Rattle.std.proofs.Common.{string_bytes}
 use Rattle.flight_graph.specs.Text.{slot_text}
 use Rattle.flight_graph.specs.Walk.{placed}
 use Rattle.flight_graph.proofs.Rows.{commas_more}
@@ -6,5 +5,5 @@ use Rattle.flight_graph.proofs.print.write_slots.Goals as goal
 
 pub loop-at-preserved : goal.loop-at-preserved
 loop-at-preserved c =
-    commas_more (placed c.args.places.now) slot_text c.args.slots.now c.loop-at.at c.index-slots-at.result (string_bytes c.args.out.now) (string_bytes c.loop-at.out) (string_bytes c.write_comma.new.out) (string_bytes c.write_slot.new.out)
+    commas_more (placed c.args.places.now) slot_text c.args.slots.now c.loop-at.at c.index-slots-at.result c.args.out.now c.loop-at.out c.write_comma.new.out c.write_slot.new.out
     c.loop-at-test.true c.index-slots-at.is c.loop-at.invariant c.in_ok-write_comma.ensures c.in_ok-write_slot.ensures

@@ -9,9 +9,8 @@ returns-then-has_sign c =
     let s = c.as_bytes-bytes.result.now in
     let behind = drop 1 s in
     let signed : (get_or s 0 0 == 45) ≡ true = sym c.if-has_sign.ensures.sign in
-    let scanned : c.scan.result ≡ scan behind = c.scan.ensures.parts ∙ ap scan (take_all _ behind (omega (arith, length-drop 1 s))) in
     let writes : number_from true (scan behind) ≡ number_of s = rw signed in
-    c.negative.ensures ∙ ap (number_from true) scanned ∙ writes ∙ ap number_of c.as_bytes-bytes.ensures.value
+    c.negative.ensures ∙ ap (λ bs. number_from true (scan bs)) (take_all _ behind (omega (arith, length-drop 1 s))) ∙ writes ∙ ap number_of c.as_bytes-bytes.ensures.value
 
 pub returns-else-has_sign : goal.returns-else-has_sign
 unfolding number_of
@@ -19,4 +18,4 @@ returns-else-has_sign c =
     let s = c.as_bytes-bytes.result.now in
     let bare : (get_or s 0 0 == 45) ≡ false = sym c.if-has_sign.ensures.sign in
     let writes : number_from false (scan s) ≡ number_of s = rw bare in
-    c.unsigned.ensures ∙ ap (number_from false) c.scan-else-has_sign.ensures.parts ∙ writes ∙ ap number_of c.as_bytes-bytes.ensures.value
+    c.unsigned.ensures ∙ writes ∙ ap number_of c.as_bytes-bytes.ensures.value

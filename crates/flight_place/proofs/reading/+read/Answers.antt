@@ -150,7 +150,7 @@ read_members-members-preserved t c =
     let r = c.read_value.new.reader in
     let less = read_key-shorter l.reader (Some k) s named in
     let lesser = done.shorter in
-    let added = c.in_ok-found.ensures in (
+    let added = c.in_ok-put.ensures in (
       turns - 1,
       omega (arith, l.invariant.1),
       l.invariant.2 ∙ (members-turn p old turns k l.reader s r d (omega (arith, l.invariant.1)) named done.ok

@@ -1,0 +1,88 @@
+ghost use Rattle.std.specs.Prelude.{◌≡◌, ◌++◌, ◌∷◌, ◌<◌, [], OnOk, IfOk};
+
+use arrayvec::ArrayVec;
+use flight_value::{Memory, Text};
+use std::alloc::Global;
+use std::marker::Model;
+
+/// How many bytes are gathered.
+const ROOM: usize = 1024;
+
+/// A text on its way, which contracts see as its bytes. Most pieces are of a few bytes: they are gathered, and go to the
+/// text many at once.
+#[derive(Drop)]
+pub struct Writer {
+    text: Vec<u8>,
+    /// What stands behind the text.
+    gathered: ArrayVec<u8, ROOM>,
+}
+
+impl Model for Writer {
+    ghost use Rattle.std.specs.Prelude.{List, ℕ, ◌++◌};
+    ghost use Rattle.std.specs.Coded.{coded_list, coded_ℕ};
+
+    ghost Value = { List ℕ };
+
+    ghost coded = { coded_list coded_ℕ };
+
+    ghost view = { λ w. w.text.items ++ w.gathered.items };
+}
+
+impl Writer {
+    /// An empty text. It takes no memory yet.
+    pub fn new(alloc: Global) -> Writer
+        ensures { result ≡ [] }
+    {
+        Writer {
+            text: Vec::new(alloc),
+            gathered: ArrayVec::new(),
+        }
+    }
+
+    /// Appends a piece.
+    #[inline]
+    pub fn push_str(&mut self, piece: &str) -> Result<(), Memory>
+        ensures { OnOk result (self.new ≡ self.old ++ piece.now) }
+    {
+        if self
+            .gathered
+            .try_extend_from_slice(piece.as_bytes())
+            .is_ok()
+        {
+            return Ok(());
+        }
+        self.text.extend_from_slice(self.gathered.as_slice())?;
+        self.gathered = ArrayVec::new();
+        self.text.extend_from_slice(piece.as_bytes())?;
+        Ok(())
+    }
+
+    /// Appends a character of ASCII.
+    #[inline]
+    pub fn push(&mut self, character: u8) -> Result<(), Memory>
+        requires { character < 128 }
+        ensures { OnOk result (self.new ≡ self.old ++ character ∷ []) }
+    {
+        if self.gathered.is_full() {
+            self.text.extend_from_slice(self.gathered.as_slice())?;
+            self.gathered = ArrayVec::new();
+        }
+        self.gathered.push(character);
+        Ok(())
+    }
+
+    /// The text.
+    pub fn into_text(self) -> Result<Text, Memory>
+        ensures { IfOk result (λ t. t ≡ self) }
+    {
+        let Writer { text, gathered } = self;
+        let mut text = text;
+        text.extend_from_slice(gathered.as_slice())?;
+        if !simdutf8::basic::from_utf8(text.as_slice()).is_ok() {
+            // Each piece was a text.
+            return Err(Memory);
+        }
+        // SAFETY: it was tested just now.
+        Ok(Text::from_string(unsafe { String::from_utf8_unchecked(text) }))
+    }
+}

@@ -1,0 +1,9 @@
+use Rattle.std.proofs.Common.{map, take}
+use Rattle.flight_place.specs.declared.place.Named.{Named}
+use Rattle.flight_place.specs.Meaning.{at_places}
+use Rattle.flight_link.specs.Nodes.{spot_of}
+use Rattle.flight_link.specs.Laid.{Adds}
+use Rattle.flight_link.proofs.table.Table.push_props.Given as goal
+
+abbrev pub invariant-loop-prop : goal.invariant-loop-prop
+invariant-loop-prop l = Adds l.self.rows.items (at_places (spot_of l.self.rows.items l.spot) (map (λ (p : Named). p.place) (take l.prop-index l.named))) l.fn.targets.items l.targets.items
