@@ -1,7 +1,7 @@
 ghost use Rattle.flight_value.specs.Graph.{IsValid};
 
 use crate::valid::is_valid;
-use crate::{Kind, Label, alike, canon, canon_text, look, write_string};
+use crate::{Kind, Label, Writer, alike, canon, canon_text, look, write_string};
 use flight_value::{Atom, Constant, End, Flow, Graph, List, Memory, Node, Prop, Slot, Text, Wide};
 use std::alloc::Global;
 use std::test::Fail;
