@@ -12,6 +12,7 @@
 
 mod date;
 mod graph;
+mod inline;
 mod key;
 mod list;
 mod made;

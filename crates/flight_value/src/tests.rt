@@ -14,7 +14,7 @@ fn makes_values_with_ample_memory(rt: HostRuntime) -> Result<(), Fail> {
     let text = Text::new(rt.alloc(), "a\u{e9}")?;
     assert!(rt; text.as_str() == "a\u{e9}");
     let copy = Atom::Text(text).copy()?;
-    assert!(rt; copy == Atom::Text(Text::from_string(String::from_str(rt.alloc(), "a\u{e9}")?)));
+    assert!(rt; copy == Atom::Text(Text::from_string(String::from_str(rt.alloc(), "a\u{e9}")?)?));
     let shared = Shared::new(rt.alloc(), 7u32)?.share()?;
     assert!(rt; *shared.get() == 7);
     Ok(())

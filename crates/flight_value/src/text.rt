@@ -6,21 +6,19 @@ ghost use Rattle.std.specs.Fmt.{debug_str};
 ghost use Rattle.std.specs.Hash as hashed;
 ghost use Rattle.std.proofs.Common.{rules};
 
+use crate::inline::Inline;
 use crate::memory::Memory;
-use arrayvec::ArrayString;
 use std::alloc::{AllocError, Global};
 use std::fmt;
 use std::hash::{Hash, Hasher};
 use std::marker::Model;
 
-/// How many bytes of a text lie in the value itself.
-const INLINE: usize = 16;
-
 /// Where a text lies: most names and values are short, and these take no memory of their own.
 #[derive(Drop)]
 enum Held {
-    Short(ArrayString<INLINE>),
-    Long(String),
+    Short(Inline),
+    /// Behind a pointer, so that a text has 24 bytes.
+    Long(Box<String>),
 }
 
 /// A text, which contracts see as its bytes. The bytes are UTF-8.
@@ -53,25 +51,25 @@ impl Text {
     pub fn new(alloc: Global, text: &str) -> Result<Text, Memory>
         ensures { IfOk result (λ t. t ≡ text.now) }
     {
-        let held = match ArrayString::from(text) {
-            Ok(short) => Held::Short(short),
-            Err(_) => Held::Long(String::from_str(alloc, text)?),
+        let held = match Inline::new(text) {
+            Some(short) => Held::Short(short),
+            None => Held::Long(Box::new(alloc, String::from_str(alloc, text)?)?),
         };
         Ok(Text { held })
     }
 
     /// A text that was built already. It is not copied, unless it is short.
-    pub fn from_string(text: String) -> Text
-        ensures { result ≡ string_bytes text }
+    pub fn from_string(text: String) -> Result<Text, Memory>
+        ensures { IfOk result (λ t. t ≡ string_bytes text) }
     {
-        if let Ok(short) = ArrayString::from(text.as_str()) {
-            return Text {
-                held: Held::Short(short),
-            };
-        }
-        Text {
-            held: Held::Long(text),
-        }
+        let held = match Inline::new(text.as_str()) {
+            Some(short) => Held::Short(short),
+            None => {
+                let alloc = *text.allocator();
+                Held::Long(Box::new(alloc, text)?)
+            }
+        };
+        Ok(Text { held })
     }
 
     /// The text itself.
@@ -80,7 +78,7 @@ impl Text {
     {
         match &self.held {
             Held::Short(text) => text.as_str(),
-            Held::Long(text) => text.as_str(),
+            Held::Long(text) => text.as_ref().as_str(),
         }
     }
 }
@@ -90,11 +88,19 @@ impl Clone for Text {
 
     fn clone(&self) -> Result<Text, AllocError> {
         let held = match &self.held {
-            Held::Short(text) => Held::Short(*text),
-            Held::Long(text) => Held::Long(text.clone()?),
+            Held::Short(text) => Held::Short(text.copy()),
+            Held::Long(text) => Held::Long(boxed(text.as_ref())?),
         };
         Ok(Text { held })
     }
+}
+
+/// A copy behind a pointer.
+fn boxed(text: &String) -> Result<Box<String>, AllocError>
+    ensures { IfOk result (λ b. string_bytes b.value ≡ string_bytes text.now) }
+{
+    let copy = text.clone()?;
+    Ok(Box::new(*text.allocator(), copy)?)
 }
 
 impl fmt::Debug for Text {

@@ -1,0 +1,6 @@
+use Rattle.std.proofs.lemmas.Str.{IsUtf8-had}
+use Rattle.flight_value.proofs.inline.Inline.as_str.Goals as goal
+
+-- src/inline.rt:63:18
+pub from_utf8_unchecked-requires : goal.from_utf8_unchecked-requires
+from_utf8_unchecked-requires c = IsUtf8-had _ c.self.invariant.2
