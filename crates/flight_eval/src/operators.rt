@@ -54,7 +54,7 @@ fn joined(alloc: Global, x: &str, y: &str) -> Result<Atom, Stop>
 {
     let mut text = String::from_str(alloc, x)?;
     text.push_str(y)?;
-    Ok(Atom::Text(Text::from_string(text)))
+    Ok(Atom::Text(Text::from_string(text)?))
 }
 
 /// A text and the digits of a number.
@@ -69,7 +69,7 @@ fn joined_digits(alloc: Global, x: &str, y: i64) -> Result<Atom, Stop>
     ensures { Comes (gave (text_atom (x.now ++ signed_decimal y))) result }
 {
     let text = with_digits(alloc, x, y)?;
-    Ok(Atom::Text(Text::from_string(text)))
+    Ok(Atom::Text(Text::from_string(text)?))
 }
 
 fn plus(alloc: Global, x: &Atom, y: &Atom) -> Result<Atom, Stop>

@@ -83,6 +83,6 @@ impl Writer {
             return Err(Memory);
         }
         // SAFETY: it was tested just now.
-        Ok(Text::from_string(unsafe { String::from_utf8_unchecked(text) }))
+        Text::from_string(unsafe { String::from_utf8_unchecked(text) })
     }
 }

@@ -177,7 +177,7 @@ fn import_place(alloc: Global, payload: &str) -> Result<Place, PlaceFault>
         return Err(PlaceFault::Fault(PlaceKind::Number));
     }
     let text = value.to_string(alloc)?;
-    Ok(Place::Atom(Atom::Import(Text::from_string(text))))
+    Ok(Place::Atom(Atom::Import(Text::from_string(text)?)))
 }
 
 /// The place of a failure: its digest.

@@ -27,7 +27,7 @@ fn written(alloc: Global, declared: &[Declared]) -> Result<Text, Memory>
 {
     let mut out = String::new(alloc);
     write_each(alloc, &mut out, declared)?;
-    Ok(Text::from_string(out))
+    Text::from_string(out)
 }
 
 /// Appends declarations.

@@ -11,7 +11,7 @@ pub fn joined(alloc: Global, front: &str, rest: &str) -> Result<Text, Memory>
 {
     let mut text = String::from_str(alloc, front)?;
     text.push_str(rest)?;
-    Ok(Text::from_string(text))
+    Text::from_string(text)
 }
 
 /// A position as a number. More positions than numbers are answered as want of memory.

@@ -67,7 +67,7 @@ pub fn string_of(alloc: Global, literal: &[u8]) -> Result<Text, Memory>
 {
     // The literal was read before, so that nothing can go wrong but for want of memory.
     match Value::from_slice(alloc, literal) {
-        Ok(Value::String(value)) => Ok(Text::from_string(value)),
+        Ok(Value::String(value)) => Text::from_string(value),
         Ok(_) => unreachable!(),
         Err(_) => Err(Memory),
     }

@@ -17,7 +17,7 @@ pub fn bundle_refusal(alloc: Global, fault: &BundleFault) -> Result<Text, Memory
     let mut out = String::new(alloc);
     write_bundle(&mut out, fault)?;
     out.push_str("\n")?;
-    Ok(Text::from_string(out))
+    Text::from_string(out)
 }
 
 fn write_bundle(out: &mut String, fault: &BundleFault) -> Result<(), Memory>

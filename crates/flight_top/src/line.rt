@@ -16,7 +16,7 @@ pub fn refusal_line(alloc: Global, fault: ClientFault) -> Result<Text, Memory>
     out.push_str("stream: ")?;
     write_fault(&mut out, fault)?;
     out.push_str("\n")?;
-    Ok(Text::from_string(out))
+    Text::from_string(out)
 }
 
 fn write_fault(out: &mut String, fault: ClientFault) -> Result<(), Memory>

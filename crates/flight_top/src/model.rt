@@ -159,7 +159,7 @@ fn text_in(alloc: Global, string: String) -> Result<Text, Refused>
     ensures refused { result ≡ Err Refused.NotPlain → text_of (string_bytes string) ≡ None }
 {
     if !string.as_str().starts_with('$') {
-        return Ok(Text::from_string(string));
+        return Ok(Text::from_string(string)?);
     }
     match plain(string.as_str()) {
         Some(t) => text(alloc, t),
@@ -268,7 +268,7 @@ fn walk_members(
 {
     let mut props = Vec::with_capacity(alloc, members.len())?;
     for (name, member) in members {
-        let name = Text::from_string(name);
+        let name = Text::from_string(name)?;
         let slot = walk(alloc, member, out)?;
         props.push(Prop { name, slot })?;
     }

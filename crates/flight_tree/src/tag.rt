@@ -120,7 +120,7 @@ pub fn joined(alloc: Global, first: &Name, parts: &[Name]) -> Result<Name, Memor
         bytes.push_str("-")?;
         bytes.push_str(part.bytes.as_str())?;
     }
-    let bytes = Text::from_string(bytes);
+    let bytes = Text::from_string(bytes)?;
     let at = first.at;
     Ok(Name { bytes, at })
 }
