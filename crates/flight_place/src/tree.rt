@@ -176,8 +176,9 @@ fn import_place(alloc: Global, payload: &str) -> Result<Place, PlaceFault>
     if !has_whole_numbers(&value) {
         return Err(PlaceFault::Fault(PlaceKind::Number));
     }
-    let text = value.to_string(alloc)?;
-    Ok(Place::Atom(Atom::Import(Text::from_string(text)?)))
+    let json = value.to_string(alloc)?;
+    let text = Text::from_string(json)?;
+    Ok(Place::Atom(Atom::Import(text)))
 }
 
 /// The place of a failure: its digest.

@@ -15,7 +15,7 @@ pub fn spell_mark(alloc: Global, mark: &Mark) -> Result<Text, Memory>
     ensures spelled { IfOk result (λ text. text ≡ spelling_of mark.now) }
     ensures read { IfOk result (λ text. IsSpelling text mark.now) }
 {
-    Text::from_string(spelled(alloc, mark)?)
+    Ok(Text::from_string(spelled(alloc, mark)?)?)
 }
 
 /// The bytes of that string.
