@@ -131,6 +131,7 @@ pub fn read_from<'a>(
 
 /// The items of an array that has begun.
 #[cycle(read)]
+#[inline(never)]
 pub fn read_items<'a>(
     alloc: Global,
     reader: &mut Reader<'a>,
@@ -150,6 +151,7 @@ pub fn read_items<'a>(
 
 /// The members of an object that has begun.
 #[cycle(read)]
+#[inline(never)]
 fn read_members<'a>(
     alloc: Global,
     reader: &mut Reader<'a>,
