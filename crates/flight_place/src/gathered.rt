@@ -30,13 +30,15 @@ impl<'a> Gathered<'a> {
     }
 
     /// Puts a member in, whose value takes the place of an earlier one of its name.
+    #[inline(always)]
     pub fn put(&mut self, alloc: Global, name: &'a str, value: Parsed<'a>) -> Result<(), AllocError>
         requires { OrderedMembers (gathered_data self.old) }
         ensures { OnOk result (gathered_data self.new ≡ put name.now (data_of value.entry) (gathered_data self.old)) }
     {
         if let Gathered::Listed(list) = self {
             if is_behind(list.as_slice(), name) {
-                list.push((name, value))?;
+                list.reserve(1)?;
+                list.push_reserved((name, value));
                 return Ok(());
             }
         }

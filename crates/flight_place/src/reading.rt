@@ -95,6 +95,7 @@ fn read_value<'a>(
 
 /// The value that a token begins.
 #[cycle(read)]
+#[inline(always)]
 pub fn read_from<'a>(
     alloc: Global,
     token: Token<'a>,
@@ -143,8 +144,9 @@ pub fn read_items<'a>(
 {
     let mut found = Vec::new(alloc);
     'items: while !reader.take_end_array() {
+        found.reserve(1)?;
         let item = read_value(alloc, reader, levels)?;
-        found.push(item)?;
+        found.push_reserved(item);
     }
     Ok(found)
 }
