@@ -227,6 +227,7 @@ pub fn push(out: &mut Vec<Place>, place: Place) -> Result<u32, PlaceFault>
 }
 
 /// The next place's number, with room for it.
+#[inline(always)]
 fn next_room(out: &mut Vec<Place>) -> Result<u32, PlaceFault>
     ensures number { IfOk result (λ n. n ≡ length out.old.items) }
     ensures room { OnOk result (vec_len out.new < vec_capacity out.new) }
@@ -234,11 +235,25 @@ fn next_room(out: &mut Vec<Place>) -> Result<u32, PlaceFault>
     ensures err { IfErr result (λ e. e ≡ PlaceFault.Memory) }
 {
     let number = next_number(out.as_slice())?;
-    out.reserve(1)?;
+    if out.len() >= out.capacity() {
+        make_room(out)?;
+    }
     Ok(number)
 }
 
-/// Drops a place for which there was no room. It stands apart, so that what is done for each place stays small.
+/// Makes room for a place. It stands apart, so that what is done for each place stays small.
+#[cold]
+#[inline(never)]
+fn make_room(out: &mut Vec<Place>) -> Result<(), PlaceFault>
+    ensures room { OnOk result (vec_len out.new < vec_capacity out.new) }
+    ensures kept { out.new.items ≡ out.old.items }
+    ensures err { IfErr result (λ e. e ≡ PlaceFault.Memory) }
+{
+    out.reserve(1)?;
+    Ok(())
+}
+
+/// Drops a place for which there was no room. It stands apart as well.
 #[cold]
 #[inline(never)]
 fn discard(place: Place) {
