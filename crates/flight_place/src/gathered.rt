@@ -88,6 +88,7 @@ impl<'a> Gathered<'a> {
         Ok(())
     }
 
+    #[inline(always)]
     pub fn into_list(self, alloc: Global) -> Result<Vec<(&'a str, Parsed<'a>)>, AllocError>
         ensures { IfOk result (λ list. members_data list.items ≡ gathered_data self.entry) }
     {

@@ -15,6 +15,7 @@ use std::mem;
 
 /// Adds the places of a value, and gives the value's number.
 #[cycle(walk)]
+#[inline(always)]
 pub fn walk(
     alloc: Global,
     manner: Manner,
