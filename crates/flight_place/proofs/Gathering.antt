@@ -21,6 +21,10 @@ put-behind (x ∷ xs) k p h =
     let above : slice_cmp nat_cmp k.now x.0.now ≡ Greater = nat_list_cmp_total.antisymm k.now x.0.now ∙ ap ordering_reverse h.0 in
     rw above (ap (member x.0.now (data_of x.1)) (put-behind xs k p h.1))
 
+pub put-last : (k : Bor (List ℕ)) (p : Parsed) (xs : List Entry) → AreBelow k.now (members_data xs) → members_data (xs ++ (k, p) ∷ []) ≡ put k.now (data_of p) (members_data xs)
+put-last k p [] above = refl
+put-last k p (x ∷ xs) above = rw above.0 (ap (member x.0.now (data_of x.1)) (put-last k p xs above.1))
+
 -- ---- in a list
 
 -- a name is below one that stands behind it

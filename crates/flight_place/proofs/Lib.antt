@@ -1,4 +1,5 @@
 pub mod Adding
+pub mod Plain
 pub mod Walks
 pub mod Trees
 pub mod Within

@@ -1,5 +1,5 @@
 -- What strings stand for, and where they may stand.
-use Rattle.std.specs.Prelude.{ℕ, ◌==◌, ◌||◌, Bool, false, not, nat_eq, List, [], ◌∷◌, codes}
+use Rattle.std.specs.Prelude.{ℕ, ◌==◌, ◌||◌, Bool, true, false, not, nat_eq, List, [], ◌∷◌, codes}
 use Rattle.std.specs.List.{starts_with}
 use Rattle.flight_value.specs.declared.graph.Atom.TheVariants as atom
 use Rattle.flight_text.specs.declared.mark.Mark.{Mark}
@@ -13,6 +13,11 @@ use Rattle.flight_place.specs.declared.place.Manner.TheVariants.{Wire, Reply}
 abbrev pub is_dollar : List ℕ → Bool
 is_dollar (b ∷ []) = b == 36
 is_dollar text = false
+
+-- the strings that stand for themselves: those that do not begin with `$`
+abbrev pub is_plain : List ℕ → Bool
+is_plain [] = true
+is_plain (b ∷ text) = not (b == 36)
 
 -- the strings that stand for texts: those that begin with no `$`, or with two
 abbrev pub is_text : List ℕ → Bool

@@ -1,4 +1,4 @@
-ghost use Rattle.std.specs.Prelude.{◌≡◌, ◌≤◌, ◌<◌, IfOk, IfErr, OnOk, length, take, drop};
+ghost use Rattle.std.specs.Prelude.{◌≡◌, ◌≤◌, ◌<◌, IfOk, IfErr, OnOk, IsTrue, length, take, drop};
 ghost use Rattle.std.specs.Ordering.{nat_cmp};
 ghost use Rattle.std.specs.Cmp.Lexicographic.{slice_cmp};
 ghost use Rattle.serde_json.specs.Data.{put, no_members};
@@ -30,7 +30,30 @@ impl<'a> Gathered<'a> {
     }
 
     /// Puts a member in, whose value takes the place of an earlier one of its name.
+    #[inline(always)]
     pub fn put(&mut self, alloc: Global, name: &'a str, value: Parsed<'a>) -> Result<(), AllocError>
+        requires { OrderedMembers (gathered_data self.old) }
+        ensures { OnOk result (gathered_data self.new ≡ put name.now (data_of value.entry) (gathered_data self.old)) }
+    {
+        if let Gathered::Listed(list) = self {
+            if is_behind(list.as_slice(), name) {
+                list.reserve(1)?;
+                list.push_reserved((name, value));
+                return Ok(());
+            }
+        }
+        self.put_among(alloc, name, value)
+    }
+
+    /// The same of a member that is not behind all others.
+    #[cold]
+    #[inline(never)]
+    fn put_among(
+        &mut self,
+        alloc: Global,
+        name: &'a str,
+        value: Parsed<'a>,
+    ) -> Result<(), AllocError>
         requires { OrderedMembers (gathered_data self.old) }
         ensures { OnOk result (gathered_data self.new ≡ put name.now (data_of value.entry) (gathered_data self.old)) }
     {
@@ -44,7 +67,9 @@ impl<'a> Gathered<'a> {
     }
 
     /// Whether many members would have to be searched one by one for a name.
-    fn needs_map(&self, name: &str) -> bool {
+    fn needs_map(&self, name: &str) -> bool
+        requires { OrderedMembers (gathered_data self.now) }
+    {
         match self {
             Gathered::Listed(list) => list.len() > FEW && !is_behind(list.as_slice(), name),
             Gathered::Mapped(_) => false,
@@ -63,6 +88,7 @@ impl<'a> Gathered<'a> {
         Ok(())
     }
 
+    #[inline(always)]
     pub fn into_list(self, alloc: Global) -> Result<Vec<(&'a str, Parsed<'a>)>, AllocError>
         ensures { IfOk result (λ list. members_data list.items ≡ gathered_data self.entry) }
     {
@@ -74,11 +100,15 @@ impl<'a> Gathered<'a> {
 }
 
 /// Whether a name is behind all these.
-fn is_behind(list: &[(&str, Parsed<'_>)], name: &str) -> bool {
-    match list {
-        [.., last] => last.0 < name,
-        _ => true,
+fn is_behind(list: &[(&str, Parsed<'_>)], name: &str) -> bool
+    requires { OrderedMembers (members_data list.now) }
+    ensures { IsTrue result → AreBelow name.now (members_data list.now) }
+{
+    let end = list.len();
+    if end == 0 {
+        return true;
     }
+    matches!(order(name, list[end - 1].0), Ordering::Greater)
 }
 
 /// Puts a member where it belongs.
@@ -120,14 +150,18 @@ fn position(list: &[(&str, Parsed<'_>)], name: &str) -> Result<usize, usize>
     Err(0)
 }
 
-/// How two names stand by their bytes. Most differ in the first, and need no look at the others.
+/// How two names stand by their bytes. Names are short, and most differ in one of the first bytes.
 fn order(name: &str, other: &str) -> Ordering
     ensures { result ≡ slice_cmp nat_cmp name.now other.now }
 {
-    match (name.as_bytes(), other.as_bytes()) {
-        ([a, ..], [b, ..]) if a != b => a.cmp(b),
-        _ => name.cmp(other),
+    let a = name.as_bytes();
+    let b = other.as_bytes();
+    for at in 0..a.len().min(b.len()) {
+        if a[at] != b[at] {
+            return a[at].cmp(&b[at]);
+        }
     }
+    name.cmp(other)
 }
 
 /// Gives a member another value.

@@ -21,6 +21,7 @@ mod parsed;
 mod place;
 mod placing;
 mod reading;
+mod scratch;
 #[cfg(test)]
 mod tests;
 mod token;
@@ -28,10 +29,10 @@ mod tree;
 mod walk;
 
 pub use fault::{PlaceFault, PlaceKind};
-pub use json::Scratch;
 pub use law::{
     names_ascend, numbers_lead_to_places, one_end, one_meaning, one_tree, pairs_stay,
     resolved_stays, steps_go_on, walks_on,
 };
 pub use place::{Manner, Named, Place, PlaceTree, PlacedRow};
+pub use scratch::Scratch;
 pub use tree::{places, places_with};

@@ -33,7 +33,7 @@ fn unsigned(bytes: &[u8]) -> Option<Number>
 {
     match digits(bytes) {
         Some(n) => Some(Number::from(n)),
-        None => unsigned_numeral(&Numeral::scan(bytes)),
+        None => unsigned_scanned(bytes),
     }
 }
 
@@ -43,7 +43,7 @@ fn negative(bytes: &[u8]) -> Option<Number>
 {
     match digits(bytes) {
         Some(n) if 0 < n && n < 1 << 63 => Some(Number::from(minus(n))),
-        _ => negative_numeral(&Numeral::scan(bytes)),
+        _ => negative_scanned(bytes),
     }
 }
 
@@ -63,6 +63,24 @@ fn digits(bytes: &[u8]) -> Option<u64>
         return None;
     }
     parse_u64(bytes).ok()
+}
+
+/// A number without a sign that is no short list of digits.
+#[cold]
+#[inline(never)]
+fn unsigned_scanned(bytes: &[u8]) -> Option<Number>
+    ensures { option_map number_view result ≡ number_from false (scan bytes.now) }
+{
+    unsigned_numeral(&Numeral::scan(bytes))
+}
+
+/// The same behind its sign.
+#[cold]
+#[inline(never)]
+fn negative_scanned(bytes: &[u8]) -> Option<Number>
+    ensures { option_map number_view result ≡ number_from true (scan bytes.now) }
+{
+    negative_numeral(&Numeral::scan(bytes))
 }
 
 /// A number without a sign.

@@ -97,6 +97,7 @@ pub fn place_next<'a>(
 
 /// Adds the places of the value that a token begins. An array is read item by item, and any other value as a whole.
 #[cycle(place)]
+#[inline(always)]
 fn place<'a>(
     alloc: Global,
     manner: Manner,

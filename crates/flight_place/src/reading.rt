@@ -95,6 +95,7 @@ fn read_value<'a>(
 
 /// The value that a token begins.
 #[cycle(read)]
+#[inline(always)]
 pub fn read_from<'a>(
     alloc: Global,
     token: Token<'a>,
@@ -131,6 +132,7 @@ pub fn read_from<'a>(
 
 /// The items of an array that has begun.
 #[cycle(read)]
+#[inline(never)]
 pub fn read_items<'a>(
     alloc: Global,
     reader: &mut Reader<'a>,
@@ -142,14 +144,16 @@ pub fn read_items<'a>(
 {
     let mut found = Vec::new(alloc);
     'items: while !reader.take_end_array() {
+        found.reserve(1)?;
         let item = read_value(alloc, reader, levels)?;
-        found.push(item)?;
+        found.push_reserved(item);
     }
     Ok(found)
 }
 
 /// The members of an object that has begun.
 #[cycle(read)]
+#[inline(never)]
 fn read_members<'a>(
     alloc: Global,
     reader: &mut Reader<'a>,

@@ -1,4 +1,6 @@
-use crate::{Manner, Place, PlaceFault, PlaceKind, PlaceTree, one_tree, places};
+use crate::{
+    Manner, Place, PlaceFault, PlaceKind, PlaceTree, Scratch, one_tree, places, places_with,
+};
 use flight_row::{Row, RowKind};
 use flight_value::{Flow, List};
 use std::test::Fail;
@@ -191,4 +193,46 @@ fn numbers_an_element(rt: HostRuntime) -> Result<(), Fail> {
         Err(_) => assert!(rt; false, "{payload}"),
     }
     Ok(())
+}
+
+/// The places of a model row, read in memory that is kept.
+fn tree_with(
+    rt: &HostRuntime,
+    scratch: &mut Scratch,
+    payload: &str,
+) -> Result<PlaceTree, PlaceFault> {
+    let payload = List::new(Vec::from_slice(rt.alloc(), payload.as_bytes())?);
+    let row = Row {
+        id: 0,
+        kind: RowKind::Model,
+        payload,
+    };
+    places_with(rt.alloc(), scratch, &row, Manner::Wire)
+}
+
+#[test]
+fn a_row_leaves_no_places_to_the_next(rt: HostRuntime) {
+    let mut scratch = Scratch::new(rt.alloc());
+    for (payload, count) in [
+        ("[0,[1,[1.5]]]", 0),
+        ("[0]", 2),
+        (
+            "[0,0,0,0,0,0,0,0,0,0,0,0,0,0,0,0,0,0,0,0,0,0,0,0,0,0,0,0,0,0,0,0,0,0,0,0,0,0,0,0,0,0,0,0,0,0,0,0,0,0,0,0,0,0,0,0,0,0,0,0,0,0,0,0,0,0,0,0,0,0]",
+            71,
+        ),
+        (r#"{"b":0,"a":[]}"#, 3),
+        ("[0", 0),
+        (
+            "[0,0,0,0,0,0,0,0,0,0,0,0,0,0,0,0,0,0,0,0,0,0,0,0,0,0,0,0,0,0,0,0,0,0,0,0,0,0,0,0,0,0,0,0,0,0,0,0,0,0,0,0,0,0,0,0,0,0,0,0,0,0,0,0,0,0,0,0,0,0]",
+            71,
+        ),
+        ("null", 1),
+    ] {
+        let told = tree_with(&rt, &mut scratch, payload);
+        let found = match &told {
+            Ok(tree) => tree.places.as_slice().len() == count,
+            Err(_) => count == 0,
+        };
+        assert!(rt; found, "{payload}");
+    }
 }

@@ -1,6 +1,6 @@
 ghost use Rattle.std.specs.Prelude.{◌≡◌, ◌↔◌, [], ◌∷◌, true, IsTrue, IfOk, IfErr};
 ghost use Rattle.flight_text.specs.Mark.{IsSpelling};
-ghost use Rattle.flight_place.specs.Tokens.{is_dollar, is_text, is_barred, is_of_wire, place_of};
+ghost use Rattle.flight_place.specs.Tokens.{is_dollar, is_plain, is_text, is_barred, is_of_wire, place_of};
 ghost use Rattle.flight_place.specs.Places.{HasPlace, Visit, token};
 ghost use Rattle.flight_place.specs.Faults.{Refuses};
 
@@ -29,7 +29,15 @@ pub fn token_place(alloc: Global, manner: Manner, at: u32, text: &str) -> Result
 pub fn is_dollar(text: &str) -> bool
     ensures { IsTrue result ↔ (is_dollar text.now ≡ true) }
 {
-    text == "$"
+    matches!(text.as_bytes(), [b'$'])
+}
+
+/// Whether a string stands for itself.
+#[inline(always)]
+pub fn is_plain(text: &str) -> bool
+    ensures { result ≡ is_plain text.now }
+{
+    !matches!(text.as_bytes(), [b'$', ..])
 }
 
 /// Whether a string is read as a text.
@@ -44,8 +52,8 @@ fn is_barred(manner: Manner, text: &str) -> bool
     ensures { IsTrue result ↔ (is_barred manner text.now ≡ true) }
 {
     match manner {
-        Manner::Wire => text == "$",
-        Manner::Reply => text == "$" || is_of_wire(text),
+        Manner::Wire => is_dollar(text),
+        Manner::Reply => is_dollar(text) || is_of_wire(text),
     }
 }
 

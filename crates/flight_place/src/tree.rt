@@ -10,15 +10,17 @@ use crate::fault::{PlaceFault, PlaceKind};
 use crate::place::{Manner, Place, PlaceTree};
 use crate::placing::{Stop, place_next};
 use crate::reading::{LEVELS, parse};
+use crate::scratch::Scratch;
 use flight_row::{Row, RowKind};
 use flight_text::has_whole_numbers;
 use flight_value::{Atom, List, Text};
-use json::{Reader, Scratch};
+use json::Reader;
 use serde_json::Value;
 use std::alloc::{AllocError, Global};
-use std::str;
+use std::{mem, str};
 
-/// Up to how many places of a row are moved to where there is no room behind them.
+/// Up to how many places of a row are moved to where there is no room behind them. Most rows are small, and the places
+/// of all are kept.
 const FEW: usize = 64;
 
 /// The places of a row, numbered from the root, 0, as the walk visits them, or the first fault that it meets. A
@@ -131,29 +133,25 @@ fn whole(
     ensures ok { IfOk result (λ places. HavePlaces manner (model_visits manner (read payload.now)) places.items) }
     ensures stops { IfErr result (StopsAt manner (read payload.now)) }
 {
-    let mut reader = Reader::new(payload, scratch)?;
-    let mut out = Vec::with_capacity(alloc, room(payload))?;
-    place_next(alloc, manner, &mut reader, LEVELS, &mut out)?;
+    let Scratch { json, places } = scratch;
+    let mut reader = Reader::new(payload, json)?;
+    places.clear();
+    place_next(alloc, manner, &mut reader, LEVELS, places)?;
     if reader.next().is_some() {
         return Err(Stop::NoJson);
     }
-    Ok(tight(alloc, out)?)
+    Ok(taken(alloc, places)?)
 }
 
-/// Room for so many places as a small payload may have, so that none of them moves.
-fn room(payload: &str) -> usize {
-    (payload.len() / 8 + 1).min(FEW)
-}
-
-/// The same places, with no room left behind them where they are few: most rows are small, and all are kept.
-fn tight(alloc: Global, mut places: Vec<Place>) -> Result<Vec<Place>, AllocError>
-    ensures { IfOk result (λ kept. kept.items ≡ places.items) }
+/// All places, which leave the memory behind where they are few.
+fn taken(alloc: Global, places: &mut Vec<Place>) -> Result<Vec<Place>, AllocError>
+    ensures { IfOk result (λ kept. kept.items ≡ places.old.items) }
 {
-    if places.len() > FEW || places.len() == places.capacity() {
-        return Ok(places);
+    if places.len() > FEW {
+        return Ok(mem::replace(places, Vec::new(alloc)));
     }
     let mut kept = Vec::with_capacity(alloc, places.len())?;
-    kept.append(&mut places)?;
+    kept.append(places)?;
     Ok(kept)
 }
 
@@ -161,7 +159,7 @@ fn tight(alloc: Global, mut places: Vec<Place>) -> Result<Vec<Place>, AllocError
 fn confirmed(alloc: Global, scratch: &mut Scratch, payload: &str, kind: PlaceKind) -> PlaceFault
     ensures { IsConfirmed kind (read payload.now) result }
 {
-    match parse(alloc, payload, scratch) {
+    match parse(alloc, payload, &mut scratch.json) {
         Ok(_) => PlaceFault::Fault(kind),
         Err(fault) => fault,
     }

@@ -1,18 +1,21 @@
 ghost use Rattle.std.specs.Prelude.{◌≡◌, ◌+◌, ◌++◌, ◌∷◌, [], ◌↔◌, ◌<◌, true, length, IfOk, IfErr, OnOk, IsTrue, slice_set, drop, vec_len, vec_capacity};
 ghost use Rattle.flight_place.specs.Parsed.{data_of, items_data, members_data};
 ghost use Rattle.flight_place.specs.Places.{is_mark, is_marked, is_key, mark_visit, count, item_count, member_count, item_numbers, member_numbers, visits, array_visits, marked_visits, object_visits, item_visits, member_visits, token};
+ghost use Rattle.flight_place.specs.Tokens.{is_plain};
 ghost use Rattle.flight_place.specs.Faults.{Refuses, Adds};
 
 use crate::fault::{PlaceFault, PlaceKind};
 use crate::parsed::Parsed;
 use crate::place::{Manner, Named, Place};
-use crate::token::{is_dollar, is_text, mark_place, token_place};
+use crate::token::{is_dollar, is_plain, is_text, mark_place, token_place};
 use flight_text::{Mark, whole};
 use flight_value::{Atom, List, Text};
 use std::alloc::Global;
+use std::mem;
 
 /// Adds the places of a value, and gives the value's number.
 #[cycle(walk)]
+#[inline(always)]
 pub fn walk(
     alloc: Global,
     manner: Manner,
@@ -45,6 +48,7 @@ pub fn walk(
 
 /// Adds the places of an array and its items.
 #[cycle(walk)]
+#[inline(never)]
 fn walk_array(
     alloc: Global,
     manner: Manner,
@@ -64,6 +68,7 @@ fn walk_array(
 
 /// Adds the places of an element, its mark and what stands behind it.
 #[cycle(walk)]
+#[inline(never)]
 fn walk_element(
     alloc: Global,
     manner: Manner,
@@ -94,6 +99,7 @@ fn walk_element(
 
 /// Adds the places of an object and its members.
 #[cycle(walk)]
+#[inline(never)]
 fn walk_object(
     alloc: Global,
     manner: Manner,
@@ -203,6 +209,7 @@ pub fn unfinished(alloc: Global) -> Place
 }
 
 /// Adds a place, and gives its number.
+#[inline(always)]
 pub fn push(out: &mut Vec<Place>, place: Place) -> Result<u32, PlaceFault>
     ensures number { IfOk result (λ n. n ≡ length out.old.items) }
     ensures ok { OnOk result (out.new.items ≡ out.old.items ++ place ∷ []) }
@@ -221,6 +228,7 @@ pub fn push(out: &mut Vec<Place>, place: Place) -> Result<u32, PlaceFault>
 }
 
 /// The next place's number, with room for it.
+#[inline(always)]
 fn next_room(out: &mut Vec<Place>) -> Result<u32, PlaceFault>
     ensures number { IfOk result (λ n. n ≡ length out.old.items) }
     ensures room { OnOk result (vec_len out.new < vec_capacity out.new) }
@@ -228,11 +236,25 @@ fn next_room(out: &mut Vec<Place>) -> Result<u32, PlaceFault>
     ensures err { IfErr result (λ e. e ≡ PlaceFault.Memory) }
 {
     let number = next_number(out.as_slice())?;
-    out.reserve(1)?;
+    if out.len() >= out.capacity() {
+        make_room(out)?;
+    }
     Ok(number)
 }
 
-/// Drops a place for which there was no room. It stands apart, so that what is done for each place stays small.
+/// Makes room for a place. It stands apart, so that what is done for each place stays small.
+#[cold]
+#[inline(never)]
+fn make_room(out: &mut Vec<Place>) -> Result<(), PlaceFault>
+    ensures room { OnOk result (vec_len out.new < vec_capacity out.new) }
+    ensures kept { out.new.items ≡ out.old.items }
+    ensures err { IfErr result (λ e. e ≡ PlaceFault.Memory) }
+{
+    out.reserve(1)?;
+    Ok(())
+}
+
+/// Drops a place for which there was no room. It stands apart as well.
 #[cold]
 #[inline(never)]
 fn discard(place: Place) {
@@ -241,6 +263,43 @@ fn discard(place: Place) {
 
 /// Adds the place of a string, and gives its number.
 fn push_token(
+    alloc: Global,
+    manner: Manner,
+    text: &str,
+    out: &mut Vec<Place>,
+) -> Result<u32, PlaceFault>
+    ensures number { IfOk result (λ n. n ≡ length out.old.items) }
+    ensures adds { OnOk result (Adds manner out.old.items out.new.items (token (length out.old.items) text.now ∷ [])) }
+    ensures count { OnOk result (length out.new.items ≡ length out.old.items + 1) }
+    ensures err { IfErr result (Refuses manner (token (length out.old.items) text.now ∷ [])) }
+{
+    if is_plain(text) {
+        return push_plain(alloc, manner, text, out);
+    }
+    push_special(alloc, manner, text, out)
+}
+
+/// Adds the place of a string that stands for itself.
+#[inline(always)]
+fn push_plain(
+    alloc: Global,
+    manner: Manner,
+    text: &str,
+    out: &mut Vec<Place>,
+) -> Result<u32, PlaceFault>
+    requires { is_plain text.now ≡ true }
+    ensures number { IfOk result (λ n. n ≡ length out.old.items) }
+    ensures adds { OnOk result (Adds manner out.old.items out.new.items (token (length out.old.items) text.now ∷ [])) }
+    ensures count { OnOk result (length out.new.items ≡ length out.old.items + 1) }
+    ensures err { IfErr result (λ e. e ≡ PlaceFault.Memory) }
+{
+    let text = Text::new(alloc, text)?;
+    push(out, Place::Atom(Atom::Text(text)))
+}
+
+/// Adds the place of a string that begins with `$`.
+#[inline(never)]
+fn push_special(
     alloc: Global,
     manner: Manner,
     text: &str,
@@ -274,10 +333,11 @@ fn push_mark(alloc: Global, manner: Manner, out: &mut Vec<Place>) -> Result<(), 
     }
 }
 
-/// Puts a place where one stands.
+/// Puts a place where an unfinished one stands, which owns no memory.
+#[inline(always)]
 pub fn put(out: &mut Vec<Place>, at: usize, place: Place)
     requires { at < length out.old.items }
     ensures { out.new.items ≡ slice_set out.old.items at place }
 {
-    out[at] = place;
+    mem::forget(mem::replace(&mut out[at], place));
 }

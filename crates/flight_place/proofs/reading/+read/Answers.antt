@@ -1,4 +1,4 @@
-use Rattle.std.proofs.Common.{◌≡◌, ◌-◌, ◌<◌, [], ◌∷◌, length, Some, None, refl, sym, ap, ◌∙◌, arith, rules, inl, inr}
+use Rattle.std.proofs.Common.{◌≡◌, ◌-◌, ◌<◌, [], ◌∷◌, ◌++◌, length, Some, None, refl, sym, ap, ◌∙◌, arith, rules, inl, inr}
 use Rattle.json.specs.Token.{Token}
 use Rattle.json.specs.Json.{parse_map, after_end_array, read_key, items, members, value}
 use Rattle.json.specs.Reads.{token_of}
@@ -107,7 +107,7 @@ read_items-items-preserved t c =
       turns - 1,
       omega (arith, l.invariant.1),
       l.invariant.2 ∙ (ap (parse_map (behind l.found.items)) turn ∙ (behind-one_more l.found.items v _
-          ∙ ap (λ vs. parse_map (behind vs) (converted of_items (items p (turns - 1) r))) (sym c.in_ok-push.ensures.items))),
+          ∙ ap (λ vs. parse_map (behind vs) (converted of_items (items p (turns - 1) r))) (sym (c.push_reserved.ensures.items ∙ ap (λ vs. vs ++ v ∷ []) c.reserve.ensures.items)))),
       omega (arith, l.invariant.3),
     )
 
