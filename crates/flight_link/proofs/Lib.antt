@@ -7,6 +7,7 @@ pub mod Advancing
 pub mod Settling
 pub mod Knowing
 pub mod Growing
+pub mod Unfollowed
 pub mod RowComes
 pub mod Standing
 pub mod Waits

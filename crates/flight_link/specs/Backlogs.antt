@@ -1,5 +1,5 @@
 -- The walks that stand behind each node, in lists.
-use Rattle.std.specs.Prelude.{ℕ, ◌+◌, ◌-◌, false, ◌<◌, ◌≤◌, ◌≡◌, ◌≢◌, ◌⊎◌, true, List, [], ◌∷◌, ◌++◌, length, slice_get, slice_set, sum_by, Option, Some, None, option_and_then, vec_capacity}
+use Rattle.std.specs.Prelude.{ℕ, ◌+◌, ◌-◌, ◌^◌, false, ◌<◌, ◌≤◌, ◌≡◌, ◌≢◌, ◌⊎◌, true, List, [], ◌∷◌, ◌++◌, length, slice_get, slice_set, sum_by, Option, Some, None, option_and_then, vec_capacity}
 use Rattle.flight_link.specs.declared.node.State.{State}
 use Rattle.flight_link.specs.declared.node.State.TheVariants.{Absent, Ended, Lost, Behind}
 use Rattle.flight_link.specs.declared.backlog.Backlog.{Backlog}
@@ -75,11 +75,12 @@ pub record IsSettled (states : List State) (b : Backlog) : Type 0 where
   pub rest : IsAtRest states b
   pub quiet : AreQuiet states
 
--- there is room for all nodes
+-- there is room for all nodes, and their numbers fit in cells
 pub record HasRoom (states : List State) (b : Backlog) : Type 0 where
   pub first : length states ≤ length b.first.items
   pub next : length states ≤ length b.next.items
   pub ended : length states < vec_capacity b.ended
+  pub few : length states < 2 ^ 32
 
 -- a walk comes into the list of the node behind which it stands, or is queued
 pub record IsPut (b c : Backlog) (first next : List (Option ℕ)) (ended : List ℕ) : Type 0 where

@@ -1,5 +1,6 @@
 pub mod Spots
 pub mod Adding
+pub mod Cells
 pub mod Known
 pub mod Finding
 pub mod Looking

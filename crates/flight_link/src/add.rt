@@ -7,12 +7,13 @@ ghost use Rattle.flight_link.specs.declared.backlog.Backlog.{Backlog};
 ghost use Rattle.flight_link.specs.Growth.{MayCome, number_in, root_of};
 
 use crate::backlog::Backlog;
+use crate::cell::Cell;
 use crate::found::Spot;
 use crate::fresh::Fresh;
 use crate::ids::Known;
 use crate::node::State;
 use crate::room::{append_last, put_last};
-use crate::table::Table;
+use crate::table::{Table, node_at};
 use flight_place::PlacedRow;
 use flight_value::{List, Memory};
 use std::alloc::Global;
@@ -42,11 +43,7 @@ impl Table {
         ensures rest { IsAtRest states.new.items backlog.new }
     {
         let node = self.named(states, row.id)?;
-        self.name_all(states, row.tree.places.as_slice())?;
-        let Ok(number) = u32::try_from(self.rows.len()) else {
-            return Err(Memory);
-        };
-        let fresh = self.fresh(alloc, number, row.tree.places.as_slice())?;
+        let fresh = self.prepare(states, alloc, row.tree.places.as_slice())?;
         self.link_row(states, backlog, row, fresh, node)
     }
 
@@ -71,7 +68,7 @@ impl Table {
         ensures settled { IsSettled states.new.items backlog.new }
     {
         let nodes = numbers(states.len(), fresh.states.len())?;
-        backlog.reach(nodes.end as usize)?;
+        backlog.reach(nodes.end)?;
         self.push_row(states, row, fresh, node)?;
         self.settle(states, backlog, nodes, node);
         Ok(())
@@ -105,7 +102,7 @@ impl Table {
         states.reserve(fresh.states.len())?;
         let known = Known {
             node,
-            row: Some(number),
+            row: Cell::try_of(number)?,
         };
         self.known.insert(row.id, known)?;
         let root = root_state(fresh.index.as_slice(), number);
@@ -137,15 +134,12 @@ fn numbers(count: usize, more: usize) -> Result<Range<u32>, Memory>
 }
 
 /// The state of an id's node once its row is there.
-fn root_state(index: &[Option<u32>], row: u32) -> State
+fn root_state(index: &[Cell], row: u32) -> State
     ensures { result ≡ root_of index.now row }
 {
-    match index.first() {
-        Some(Some(node)) => State::Behind {
-            node: *node,
-            left: 0,
-        },
-        _ => State::Ended(Spot { row, place: 0 }),
+    match node_at(index, 0) {
+        Some(node) => State::Behind { node, left: 0 },
+        None => State::Ended(Spot { row, place: 0 }),
     }
 }
 

@@ -146,7 +146,7 @@ impl Table {
         ensures there { IsThere self.now.rows.items result }
     {
         match self.known.get(id) {
-            Some(known) => match known.row {
+            Some(known) => match known.row.get() {
                 Some(row) => self.property(Spot { row, place: 0 }, "bound"),
                 None => None,
             },

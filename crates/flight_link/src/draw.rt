@@ -304,7 +304,7 @@ impl Table {
         ensures { IfSome result (λ s. spot_of self.now.rows.items s ≡ first_place id) }
     {
         match self.known.get(id) {
-            Some(known) => match known.row {
+            Some(known) => match known.row.get() {
                 Some(row) => Some(Spot { row, place: 0 }),
                 None => None,
             },

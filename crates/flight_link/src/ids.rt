@@ -2,6 +2,7 @@ ghost use Rattle.std.specs.Prelude.{ℕ, ◌≡◌, ◌<◌, cond, nat_eq, None,
 ghost use Rattle.std.specs.HashMap.{IsUnchanged, get};
 ghost use Rattle.flight_link.specs.Known.{Learns, known_in, known_of};
 
+use crate::cell::Cell;
 use flight_value::Memory;
 use std::alloc::Global;
 use std::collections::HashMap;
@@ -12,7 +13,7 @@ pub struct Known {
     /// The node whose walk goes to its value.
     pub node: u32,
     /// Its row, once it is there.
-    pub row: Option<u32>,
+    pub row: Cell,
 }
 
 /// What is known of ids. Most streams count theirs from 0: such ids have cells of their own, and others stand in a map.
@@ -80,9 +81,8 @@ fn fill(cells: &mut Vec<Option<Known>>, count: usize, id: u32) -> Result<(), Mem
     if (id as usize) < cells.len() {
         return Ok(());
     }
-    let missing = count.saturating_sub(cells.len());
-    'cells: for _ in 0..missing {
-        cells.push(None)?;
+    if cells.len() < count {
+        cells.resize(count, None)?;
     }
     Ok(())
 }

@@ -270,7 +270,8 @@ impl Table {
     {
         targets.reserve(numbers.len())?;
         for number in numbers {
-            targets.push(self.target_beside(states, spot, places, *number)?)?;
+            let target = self.target_beside(states, spot, places, *number)?;
+            targets.push_reserved(target);
         }
         Ok(())
     }
@@ -290,7 +291,8 @@ impl Table {
     {
         targets.reserve(named.len())?;
         for prop in named {
-            targets.push(self.target_beside(states, spot, places, prop.place)?)?;
+            let target = self.target_beside(states, spot, places, prop.place)?;
+            targets.push_reserved(target);
         }
         Ok(())
     }

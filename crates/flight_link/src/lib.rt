@@ -13,6 +13,7 @@ mod add;
 mod advance;
 mod backlog;
 mod below;
+mod cell;
 mod draw;
 mod fault;
 mod find;

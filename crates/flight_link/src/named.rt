@@ -6,6 +6,7 @@ ghost use Rattle.flight_link.specs.Backlogs.{IsAtRest};
 ghost use Rattle.flight_link.specs.declared.backlog.Backlog.{Backlog};
 ghost use Rattle.flight_link.specs.Growth.{Keeps};
 
+use crate::cell::Cell;
 use crate::ids::Known;
 use crate::node::{Start, State};
 use crate::room::put_last;
@@ -34,7 +35,11 @@ impl Table {
         };
         self.starts.reserve(1)?;
         states.reserve(1)?;
-        self.known.insert(id, Known { node, row: None })?;
+        let known = Known {
+            node,
+            row: Cell::none(),
+        };
+        self.known.insert(id, known)?;
         put_last(&mut self.starts, Start::Id(id));
         put_last(states, State::Absent);
         Ok(node)

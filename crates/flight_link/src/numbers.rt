@@ -7,6 +7,7 @@ ghost use Rattle.flight_link.specs.Numbering.{AreNumbered, Grows, IsKey, IsPut, 
 ghost use Rattle.flight_link.specs.Spots.{places_in};
 
 use crate::backlog::{cell_at, put_cell, reach};
+use crate::cell::Cell;
 use crate::key::NodeKey;
 use crate::mention::Bases;
 use crate::room::put_last;
@@ -20,7 +21,7 @@ use std::collections::HashMap;
 pub struct Numbers {
     pub keys: Vec<NodeKey>,
     /// For each place among all places the number of its key.
-    pub places: Vec<Option<u32>>,
+    pub places: Vec<Cell>,
     pub promises: HashMap<u32, u32>,
     pub actions: HashMap<u32, u32>,
 }
@@ -108,7 +109,9 @@ impl Table {
         ensures { result ≡ its_number self.now.rows.items numbers.now key }
     {
         match key {
-            NodeKey::Made(spot) => cell_at(numbers.places.as_slice(), self.number(bases, spot)),
+            NodeKey::Made(spot) => {
+                cell_at(numbers.places.as_slice(), self.number(bases, spot)).get()
+            }
             NodeKey::Promise(id) => numbers.promises.get(&id).copied(),
             NodeKey::Action(id) => numbers.actions.get(&id).copied(),
         }
@@ -131,7 +134,7 @@ impl Table {
         match key {
             NodeKey::Made(spot) => {
                 let at = self.number(bases, spot);
-                put_cell(&mut numbers.places, at, Some(number));
+                put_cell(&mut numbers.places, at, Cell::try_of(number)?);
                 Ok(())
             }
             NodeKey::Promise(id) => put_id(&mut numbers.promises, id, number),

@@ -2,6 +2,7 @@ ghost use Rattle.std.specs.Prelude.{◌≡◌, ◌≢◌, ◌↔◌, IsTrue, [],
 ghost use Rattle.flight_place.specs.Linked.{rows_of, FollowOn};
 ghost use Rattle.flight_link.specs.Nodes.{IsTable, IsStop, IsStep, place_in, node_in, spot_of, Reaches, Gets, steps_left};
 
+use crate::cell::Cell;
 use crate::found::Spot;
 use crate::ids::Ids;
 use crate::node::{Start, State};
@@ -16,7 +17,7 @@ pub struct Table {
     /// Whose walks the nodes are.
     pub starts: Vec<Start>,
     /// For each row and each place in it the node of that place, if it is followed. A list may end before the places do.
-    pub index: Vec<List<Option<u32>>>,
+    pub index: Vec<List<Cell>>,
     pub known: Ids,
 }
 
@@ -57,7 +58,7 @@ impl Table {
         ensures none { result ≡ false → rows_of id self.now.rows.items ≡ [] }
     {
         match self.known.get(id) {
-            Some(known) => known.row.is_some(),
+            Some(known) => known.row.get().is_some(),
             None => false,
         }
     }
@@ -112,17 +113,18 @@ pub fn place_at(places: &[Place], index: usize) -> Option<&Place>
     places.get(index)
 }
 
-fn list_at(lists: &[List<Option<u32>>], index: usize) -> Option<&List<Option<u32>>>
+fn list_at(lists: &[List<Cell>], index: usize) -> Option<&List<Cell>>
     ensures { option_copied result ≡ slice_get lists.now index }
 {
     lists.get(index)
 }
 
-fn node_at(nodes: &[Option<u32>], index: usize) -> Option<u32>
+/// The number of a place's node.
+pub fn node_at(nodes: &[Cell], index: usize) -> Option<u32>
     ensures { result ≡ option_and_then (λ o. o) (slice_get nodes.now index) }
 {
     match nodes.get(index) {
-        Some(node) => *node,
+        Some(node) => node.get(),
         None => None,
     }
 }

@@ -152,7 +152,7 @@ impl Table {
         ensures { IsTrue result ↔ ((r : Reference) × (reference_of self.now.rows.items id ≡ Some r)) }
     {
         match self.known.get(id) {
-            Some(known) => match known.row {
+            Some(known) => match known.row.get() {
                 Some(row) => self.is_reference(row),
                 None => false,
             },

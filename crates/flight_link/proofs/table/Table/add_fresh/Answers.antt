@@ -1,4 +1,4 @@
-use Rattle.std.proofs.Common.{◌≡◌, ◌+◌, ◌∙◌, sym, ap, Some, None, ◌++◌, ◌∷◌, [], length, rules, subst, arith}
+use Rattle.std.proofs.Common.{ℕ, ◌≡◌, ◌+◌, ◌∙◌, sym, ap, Option, Some, None, ◌++◌, ◌∷◌, [], length, rules, subst, arith}
 use Rattle.flight_link.specs.declared.fresh.Fresh.{Fresh}
 use Rattle.flight_link.specs.declared.node.Start.TheVariants.{Place as AtPlace}
 use Rattle.flight_link.specs.Nodes.{followed, IsKnown}
@@ -19,6 +19,6 @@ returns c = λ places are last.
     let few = are.few in
     let long : length c.reach.new.cells.items ≡ length places = c.in_ok-reach.ensures.exact (omega (arith, few, last)) ∙ last in
     fresh_some c.args.self.now.starts.items c.args.spot.row places c.args.place.now c.args.fresh.now g c.reach.new.cells.items (c.in-Some.id, c.in-Some.names.now) c.in-Ok.number c.in-Some-get.known.node are some known.0 number c.reach.ensures.same long
-    c.in_ok-push.ensures.items
+    (c.in_ok-push.ensures.items ∙ ap (λ (o : Option ℕ). c.reach.new.cells.items ++ o ∷ []) c.in_ok-try_of.ensures)
     (c.in_ok-push-2.ensures.items ∙ ap (λ n. c.args.fresh.now.starts.items ++ AtPlace (record { row = c.args.spot.row; place = n }) ∷ []) last)
     (search rules)

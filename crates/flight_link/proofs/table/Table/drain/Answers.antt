@@ -58,7 +58,7 @@ loop-ended-preserved c =
     record {
       states = c.loop-ended.invariant.states;
       listed = listed.0;
-      room = record { first = omega (arith, a, room); next = omega (arith, b, room); ended = omega (arith, k, t, room) };
+      room = record { first = omega (arith, a, room); next = omega (arith, b, room); ended = omega (arith, k, t, room); few = room.few };
     }
 
 pub returns-clause-quiet : goal.returns-clause-quiet

@@ -13,21 +13,21 @@ use Rattle.flight_link.proofs.table.Table.named.Goals as goal
 pub returns-clause-table : goal.returns-clause-table
 returns-clause-table c =
     let u : Table = record { rows = c.args.self.now.rows; starts = c.put_last.new.list; index = c.args.self.now.index; known = c.insert.new.self } in
-    let k : Known = record { node = c.in-Ok.node; row = None } in
+    let k : Known = record { node = c.in-Ok.node; row = c.none.result } in
     let added = c.put_last.ensures ∙ ap (λ (x : List Start). x ++ Id c.args.id ∷ []) c.reserve.ensures.items in
     let none : known_of c.args.self.now.known c.args.id ≡ None = sym c.get.ensures ∙ c.in_default.is in
     let number : c.in-Ok.node ≡ length c.args.self.now.starts.items = search rules in
-    let is : IsNamedNow c.args.self.now u c.args.id k = record { rows = refl; index = refl; starts = added; none = none; updates = c.in_ok-insert.ensures.ok; node = number; row = refl } in
+    let is : IsNamedNow c.args.self.now u c.args.id k = record { rows = refl; index = refl; starts = added; none = none; updates = c.in_ok-insert.ensures.ok; node = number; row = c.none.ensures } in
     named_table c.args.self.now u c.args.id k c.requires.table is
 
 pub returns-clause-states : goal.returns-clause-states
 returns-clause-states c =
     let u : Table = record { rows = c.args.self.now.rows; starts = c.put_last.new.list; index = c.args.self.now.index; known = c.insert.new.self } in
-    let k : Known = record { node = c.in-Ok.node; row = None } in
+    let k : Known = record { node = c.in-Ok.node; row = c.none.result } in
     let added = c.put_last.ensures ∙ ap (λ (x : List Start). x ++ Id c.args.id ∷ []) c.reserve.ensures.items in
     let none : known_of c.args.self.now.known c.args.id ≡ None = sym c.get.ensures ∙ c.in_default.is in
     let number : c.in-Ok.node ≡ length c.args.self.now.starts.items = search rules in
-    let is : IsNamedNow c.args.self.now u c.args.id k = record { rows = refl; index = refl; starts = added; none = none; updates = c.in_ok-insert.ensures.ok; node = number; row = refl } in
+    let is : IsNamedNow c.args.self.now u c.args.id k = record { rows = refl; index = refl; starts = added; none = none; updates = c.in_ok-insert.ensures.ok; node = number; row = c.none.ensures } in
     named_states c.args.self.now u c.args.id k c.args.states.now.items c.put_last-2.new.list.items c.requires.table is (c.put_last-2.ensures ∙ ap (λ (x : List State). x ++ Absent ∷ []) c.reserve-2.ensures.items) c.requires.states
 
 pub returns-clause-quiet : goal.returns-clause-quiet

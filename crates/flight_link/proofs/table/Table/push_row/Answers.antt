@@ -17,7 +17,7 @@ returns-clause-table c =
       rows = c.put_last.ensures ∙ ap (λ (x : List PlacedRow). x ++ c.args.row ∷ []) c.reserve.ensures.items;
       index = c.put_last-2.ensures ∙ (ap (λ (x : List (List (Option ℕ))). x ++ c.new.result ∷ []) c.reserve-2.ensures.items ∙ ap (λ y. c.args.self.now.index.items ++ y ∷ []) c.new.ensures);
       starts = c.append_last.ensures ∙ ap (λ (x : List Start). x ++ c.args.fresh.starts.items) c.reserve-3.ensures.items;
-      updates = λ q. c.in_ok-insert.ensures.ok q ∙ ap (λ n. cond (nat_eq c.args.row.id q) (Some (record { node = c.args.node; row = Some n })) (known_of c.args.self.now.known q)) number;
+      updates = λ q. c.in_ok-insert.ensures.ok q ∙ ap (λ (o : Option ℕ). cond (nat_eq c.args.row.id q) (Some (record { node = c.args.node; row = o })) (known_of c.args.self.now.known q)) (c.in_ok-try_of.ensures ∙ ap Some number);
     } in
     table_added c.args.self.now u c.args.row c.args.fresh c.args.node c.requires.table c.requires.may has
 
@@ -29,7 +29,7 @@ returns-clause-states c =
       rows = c.put_last.ensures ∙ ap (λ (x : List PlacedRow). x ++ c.args.row ∷ []) c.reserve.ensures.items;
       index = c.put_last-2.ensures ∙ (ap (λ (x : List (List (Option ℕ))). x ++ c.new.result ∷ []) c.reserve-2.ensures.items ∙ ap (λ y. c.args.self.now.index.items ++ y ∷ []) c.new.ensures);
       starts = c.append_last.ensures ∙ ap (λ (x : List Start). x ++ c.args.fresh.starts.items) c.reserve-3.ensures.items;
-      updates = λ q. c.in_ok-insert.ensures.ok q ∙ ap (λ n. cond (nat_eq c.args.row.id q) (Some (record { node = c.args.node; row = Some n })) (known_of c.args.self.now.known q)) number;
+      updates = λ q. c.in_ok-insert.ensures.ok q ∙ ap (λ (o : Option ℕ). cond (nat_eq c.args.row.id q) (Some (record { node = c.args.node; row = o })) (known_of c.args.self.now.known q)) (c.in_ok-try_of.ensures ∙ ap Some number);
     } in
     states_added c.args.self.now u c.args.row c.args.fresh c.args.node c.args.states.now.items c.put_state.new.states.items c.requires.table c.requires.may has c.requires.states
     (c.put_state.ensures

@@ -12,11 +12,12 @@ put_cell-requires c =
     let room = c.requires.room in
     omega (arith, less, value, room)
 
-pub returns-in-Made-clause-put : goal.returns-in-Made-clause-put
-returns-in-Made-clause-put c =
+pub returns-in_ok-try_of-in-Made-clause-put : goal.returns-in_ok-try_of-in-Made-clause-put
+returns-in_ok-try_of-in-Made-clause-put c =
     let rows = c.args.self.now.rows.items in
     let old = c.args.numbers.now in
     let new : Numbers = record { keys = old.keys; places = c.put_cell.new.cells; promises = old.promises; actions = old.actions } in
     let key = subst (IsKey rows) c.in-Made.is c.requires.key in
     subst (λ k. IsPut rows old new k c.args.number) (sym c.in-Made.is)
-    (put_made rows old new c.in-Made.spot key.0 c.args.number key.1 c.requires.room refl refl refl (c.put_cell.ensures ∙ ap (λ n. slice_set old.places.items n (Some c.args.number)) c.number-at.ensures.value))
+    (put_made rows old new c.in-Made.spot key.0 c.args.number key.1 c.requires.room refl refl refl
+    (c.put_cell.ensures ∙ (ap (slice_set old.places.items c.number-at.result) c.in_ok-try_of-in-Made.ensures ∙ ap (λ n. slice_set old.places.items n (Some c.args.number)) c.number-at.ensures.value)))
