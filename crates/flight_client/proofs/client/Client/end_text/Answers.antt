@@ -1,41 +1,23 @@
-use Rattle.std.proofs.Common.{◌≡◌, Some, sym, ◌∙◌, ap, subst}
-use Rattle.std.specs.Prelude.{IfOk, OnOk}
+use Rattle.std.proofs.Common.{◌≡◌, sym, ap, subst}
+use Rattle.std.specs.Prelude.{IfOk}
 use Rattle.std.proofs.lemmas.Result.{IfErr-at_err}
 use Rattle.flight_value.specs.Graph.{IsValid}
 use Rattle.flight_value.specs.Store.{DrawOneGraph, of_graph}
 use Rattle.flight_value.specs.declared.graph.Graph.{Graph}
 use Rattle.flight_graph.specs.Text.{text_of}
 use Rattle.flight_place.specs.Meaning.{meaning}
-use Rattle.flight_place.specs.Good.{IsGood}
-use Rattle.flight_client.specs.Rows.{IsWhole}
 use Rattle.flight_client.specs.Held.{HasTaken, Stands, IsOn}
 use Rattle.flight_client.specs.Adding.{IsEndFault}
-use Rattle.flight_client.proofs.Finishes.{good_on, on_ends, kept_ends}
-use Rattle.flight_client.proofs.client.Client.finish_text.Goals as goal
+use Rattle.flight_client.proofs.Finishes.{on_ends}
+use Rattle.flight_client.proofs.client.Client.end_text.Goals as goal
 
-pub returns-in-None-clause-good : goal.returns-in-None-clause-good
-returns-in-None-clause-good c =
-    λ text taken.
-    let fields = c.self.inside in
-    let on : IsOn text fields.feed fields.links = subst (λ o. Stands text o fields.feed fields.links) c.in-None.is (subst (λ h. HasTaken text h) (sym c.self.view_is) taken) in
-    subst (λ rows. OnOk c.end_stream_in_text.result (IsWhole text rows × IsGood rows)) (ap (λ h. h.rows) c.self.view_is)
-    (good_on c.end_stream_in_text.result text fields.feed fields.links on c.end_stream_in_text.ensures.good)
-
-pub returns-in-None-clause-text : goal.returns-in-None-clause-text
-returns-in-None-clause-text c =
-    subst (λ rows. IfOk c.end_stream_in_text.result (λ t. (g : Graph) × IsValid g × DrawOneGraph (of_graph g) (meaning rows) × (t ≡ text_of g))) (ap (λ h. h.rows) c.self.view_is) c.end_stream_in_text.ensures.text
-
-pub returns-in-None-clause-fault : goal.returns-in-None-clause-fault
-returns-in-None-clause-fault c =
+pub returns-in-Err-clause-fault : goal.returns-in-Err-clause-fault
+returns-in-Err-clause-fault c =
     λ text f taken e n.
     let fields = c.self.inside in
-    let on : IsOn text fields.feed fields.links = subst (λ o. Stands text o fields.feed fields.links) c.in-None.is (subst (λ h. HasTaken text h) (sym c.self.view_is) taken) in
-    on_ends text fields.feed fields.links f n on (IfErr-at_err (IsEndFault fields.feed fields.links) e c.end_stream_in_text.ensures.fault)
+    let on : IsOn text fields.feed fields.links = subst (λ o. Stands text o fields.feed fields.links) c.in_default.is (subst (λ h. HasTaken text h) (sym c.self.view_is) taken) in
+    on_ends text fields.feed fields.links f n on (IfErr-at_err (IsEndFault fields.feed fields.links) e c.end_stream_in_text-ended.ensures.fault)
 
-pub returns-in-Some-clause-fault : goal.returns-in-Some-clause-fault
-returns-in-Some-clause-fault c =
-    λ text f taken e n.
-    let fields = c.self.inside in
-    let same : c.in-Some.fault ≡ f = cc in
-    let is : fields.fault ≡ Some f = c.in-Some.is ∙ ap Some same in
-    kept_ends text fields.feed fields.links f n (subst (λ o. Stands text o fields.feed fields.links) is (subst (λ h. HasTaken text h) (sym c.self.view_is) taken))
+pub returns-in_default-ended-clause-text : goal.returns-in_default-ended-clause-text
+returns-in_default-ended-clause-text c =
+    subst (λ rows. IfOk c.end_stream_in_text-ended.result (λ t. (g : Graph) × IsValid g × DrawOneGraph (of_graph g) (meaning rows) × (t ≡ text_of g))) (ap (λ h. h.rows) c.self.view_is) c.end_stream_in_text-ended.ensures.text
