@@ -118,22 +118,24 @@ impl Client {
         }
     }
 
-    /// The same, where the canonical text of the graph is wanted and not the graph, which is not built.
-    pub fn finish_text(self, alloc: Global) -> Result<Text, ClientFault>
-        ensures good { (text : List ℕ) → HasTaken text self → OnOk result (IsWhole text self.rows × IsGood self.rows) }
-        ensures text { IfOk result (λ t. (g : Graph) × IsValid g × DrawOneGraph (of_graph g) (meaning self.rows) × (t ≡ text_of g)) }
-        ensures fault { (text : List ℕ) (f : ClientFault) → HasTaken text self → result ≡ Err f → f ≢ ClientFault.Memory → EndsWithFault text f }
-        ensures kept { (f : ClientFault) → self.fault ≡ Some f → result ≡ Err f }
+    /// Ends the stream where the canonical text of that graph is wanted and not the graph, which is not built. The fault
+    /// is that of [`Client::finish`], and the client keeps it; its rows stay as they are.
+    pub fn end_text(&mut self, alloc: Global) -> Result<Text, ClientFault>
+        ensures good { (text : List ℕ) → HasTaken text self.old → OnOk result (IsWhole text self.old.rows × IsGood self.old.rows) }
+        ensures text { IfOk result (λ t. (g : Graph) × IsValid g × DrawOneGraph (of_graph g) (meaning self.old.rows) × (t ≡ text_of g)) }
+        ensures fault { (text : List ℕ) (f : ClientFault) → HasTaken text self.old → result ≡ Err f → f ≢ ClientFault.Memory → EndsWithFault text f }
+        ensures rows { self.new.rows ≡ self.old.rows }
+        ensures fine { OnOk result (self.new ≡ self.old) }
+        ensures kept { IfErr result (λ f. self.new.fault ≡ Some f) }
+        ensures again { (f : ClientFault) → self.old.fault ≡ Some f → (result ≡ Err f) × (self.new ≡ self.old) }
     {
-        let Client {
-            alloc: _,
-            feed,
-            links,
-            fault,
-        } = self;
-        match fault {
-            Some(fault) => Err(fault),
-            None => end_stream_in_text(alloc, feed, links),
+        if let Some(fault) = self.fault {
+            return Err(fault);
         }
+        let ended = end_stream_in_text(alloc, &mut self.feed, &self.links);
+        if let Err(fault) = &ended {
+            self.fault = Some(*fault);
+        }
+        ended
     }
 }

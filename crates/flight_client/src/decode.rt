@@ -33,7 +33,7 @@ pub fn decode_text(alloc: Global, cut: usize, stream: &[u8]) -> Result<Text, Cli
     ensures fault { (f : ClientFault) → result ≡ Err f → f ≢ ClientFault.Memory → EndsWithFault stream.now f }
 {
     match taken(alloc, cut, stream) {
-        Ok(client) => client.finish_text(alloc),
+        Ok(mut client) => client.end_text(alloc),
         Err(fault) => Err(fault),
     }
 }

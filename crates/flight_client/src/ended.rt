@@ -14,37 +14,43 @@ use flight_value::{Graph, Text};
 use std::alloc::Global;
 
 /// Ends a stream in which no fault was met.
-pub fn end_stream(alloc: Global, feed: Feed, links: Links) -> Result<Graph, ClientFault>
+pub fn end_stream(alloc: Global, mut feed: Feed, links: Links) -> Result<Graph, ClientFault>
     requires { feed.fault ≡ None }
     ensures valid { IfOk result IsValid }
     ensures good { OnOk result ((feed.bytes ≡ []) × IsGood links) }
     ensures graph { IfOk result (λ g. DrawOneGraph (of_graph g) (meaning links)) }
     ensures fault { IfErr result (IsEndFault feed links) }
 {
-    match end_rows(feed, &links) {
+    match end_rows(&mut feed, &links) {
         Ok(()) => Ok(links.graph(alloc)?),
         Err(fault) => Err(fault),
     }
 }
 
 /// The same, where the text of the graph is wanted and not the graph.
-pub fn end_stream_in_text(alloc: Global, feed: Feed, links: Links) -> Result<Text, ClientFault>
-    requires { feed.fault ≡ None }
-    ensures good { OnOk result ((feed.bytes ≡ []) × IsGood links) }
-    ensures text { IfOk result (λ t. (g : Graph) × IsValid g × DrawOneGraph (of_graph g) (meaning links) × (t ≡ text_of g)) }
-    ensures fault { IfErr result (IsEndFault feed links) }
+pub fn end_stream_in_text(
+    alloc: Global,
+    feed: &mut Feed,
+    links: &Links,
+) -> Result<Text, ClientFault>
+    requires { feed.old.fault ≡ None }
+    ensures good { OnOk result ((feed.old.bytes ≡ []) × IsGood links.now) }
+    ensures text { IfOk result (λ t. (g : Graph) × IsValid g × DrawOneGraph (of_graph g) (meaning links.now) × (t ≡ text_of g)) }
+    ensures fine { OnOk result (feed.new ≡ feed.old) }
+    ensures fault { IfErr result (IsEndFault feed.old links.now) }
 {
-    match end_rows(feed, &links) {
+    match end_rows(feed, links) {
         Ok(()) => Ok(links.text(alloc)?),
         Err(fault) => Err(fault),
     }
 }
 
 /// Ends the rows of a stream in which no fault was met: none has begun and is not whole, and they are good.
-fn end_rows(mut feed: Feed, links: &Links) -> Result<(), ClientFault>
-    requires { feed.fault ≡ None }
-    ensures good { OnOk result ((feed.bytes ≡ []) × IsGood links.now) }
-    ensures fault { IfErr result (IsEndFault feed links.now) }
+fn end_rows(feed: &mut Feed, links: &Links) -> Result<(), ClientFault>
+    requires { feed.old.fault ≡ None }
+    ensures good { OnOk result ((feed.old.bytes ≡ []) × IsGood links.now) }
+    ensures fine { OnOk result (feed.new ≡ feed.old) }
+    ensures fault { IfErr result (IsEndFault feed.old links.now) }
 {
     match feed.end() {
         Ok(()) => are_good(links),

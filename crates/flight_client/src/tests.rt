@@ -1,4 +1,4 @@
-use crate::{Client, ClientFault, decode_stream, decode_text, one_reading};
+use crate::{Client, ClientFault, decode_stream, one_reading};
 use flight_feed::FeedKind;
 use flight_graph::{Kind, Label, canon_text, look};
 use flight_link::{LinkKind, Seen};
@@ -6,12 +6,21 @@ use flight_place::PlaceKind;
 use flight_value::{Atom, Text};
 use std::test::Fail;
 
+/// A client that was fed a stream in pieces of `cut` bytes.
+fn fed(rt: &HostRuntime, cut: usize, stream: &str) -> Client {
+    let mut client = Client::new(rt.alloc());
+    for piece in stream.as_bytes().chunks(cut.max(1)) {
+        let _kept = client.feed(piece);
+    }
+    client
+}
+
 /// The text of the graph of a stream that comes in pieces of `cut` bytes, where it is the same whether the graph is built
 /// or not.
 fn text(rt: &HostRuntime, cut: usize, stream: &str) -> Result<Text, ClientFault> {
     let graph = decode_stream(rt.alloc(), cut.max(1), stream.as_bytes())?;
     let built = canon_text(rt.alloc(), &graph)?;
-    let found = decode_text(rt.alloc(), cut.max(1), stream.as_bytes())?;
+    let found = fed(rt, cut, stream).end_text(rt.alloc())?;
     if built.as_str() == found.as_str() {
         Ok(found)
     } else {
@@ -131,6 +140,8 @@ fn refuses_streams(rt: HostRuntime) {
         for cut in [1, 7, 65_536] {
             let found = decode_stream(rt.alloc(), cut, stream.as_bytes());
             assert!(rt; found.err() == Some(fault), "{stream} {cut}");
+            let found = fed(&rt, cut, stream).end_text(rt.alloc());
+            assert!(rt; found.err() == Some(fault), "{stream} {cut}");
         }
     }
 }
@@ -176,6 +187,23 @@ fn keeps_a_fault(rt: HostRuntime) {
     assert!(rt; client.feed(b"0:[]\n1:{\n2:1\n".as_slice()) == fault);
     assert!(rt; client.feed(b"".as_slice()) == fault);
     assert!(rt; array_at(&client, [].as_slice()).is_some());
+    assert!(rt; client.end_text(rt.alloc()).err() == Some(ClientFault::Place { number: 2, kind }));
     let found = client.finish(rt.alloc());
     assert!(rt; found.err() == Some(ClientFault::Place { number: 2, kind }));
+}
+
+#[test]
+fn stays_behind_its_text(rt: HostRuntime) -> Result<(), Fail> {
+    let mut client = fed(&rt, 65_536, "0:[]\n");
+    for _ in 0..2 {
+        assert!(rt; client.end_text(rt.alloc()).is_ok_and(|text| text.as_str() == "root #0\n#0 array []\n"));
+    }
+    assert!(rt; array_at(&client, [].as_slice()).is_some());
+    assert!(rt; client.feed(b"1:".as_slice()) == Ok(()));
+    let kind = FeedKind::Cut;
+    let cut = ClientFault::Feed { number: 2, kind };
+    assert!(rt; client.end_text(rt.alloc()).err() == Some(cut));
+    assert!(rt; client.feed(b"1\n".as_slice()) == Err(cut));
+    assert!(rt; client.end_text(rt.alloc()).err() == Some(cut));
+    Ok(())
 }

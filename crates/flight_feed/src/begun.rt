@@ -1,4 +1,4 @@
-ghost use Rattle.std.specs.Prelude.{◌≡◌, ◌+◌, ◌++◌, ◌∷◌, ◌↔◌, [], IsTrue, OnOk, OnErr, IfErr};
+ghost use Rattle.std.specs.Prelude.{◌≡◌, ◌+◌, ◌<◌, ◌≤◌, ◌++◌, ◌∷◌, ◌↔◌, ℕ, [], length, slice_index, IsTrue, IsUtf8, OnOk, OnErr, IfErr};
 ghost use Rattle.flight_feed.specs.Begun.{IsFit, IsFresh, bytes_of, item_of};
 ghost use Rattle.flight_feed.specs.Stream.{numbered};
 ghost use Rattle.flight_feed.specs.declared.begun.Stop.{Stop};
@@ -102,9 +102,27 @@ pub fn is_fit(coming: Coming, payload: &[u8]) -> bool
     ensures { IsTrue result ↔ IsFit coming payload.now }
 {
     match coming {
-        Coming::Row { .. } => from_utf8(payload).is_ok(),
+        Coming::Row { .. } => is_text(payload),
         Coming::Hint => true,
     }
+}
+
+/// Whether bytes are UTF-8. Most payloads are short and ASCII, which their greatest byte tells.
+fn is_text(bytes: &[u8]) -> bool
+    ensures { IsTrue result ↔ IsUtf8 bytes.now }
+{
+    greatest(bytes) < 128 || from_utf8(bytes).is_ok()
+}
+
+/// The greatest of some bytes, or 0. So plain a loop is compiled to steps of many bytes.
+fn greatest(bytes: &[u8]) -> u8
+    ensures { (i : ℕ) → i < length bytes.now → slice_index bytes.now i ≤ result }
+{
+    let mut most = 0;
+    for byte in bytes {
+        most = most.max(*byte);
+    }
+    most
 }
 
 /// Ends a row, and hands it out unless it is a hint.
