@@ -1,4 +1,4 @@
-ghost use Rattle.std.specs.Prelude.{◌≡◌, ◌++◌, ◌∷◌, ◌<◌, [], IfOk, OnOk};
+ghost use Rattle.std.specs.Prelude.{◌≡◌, ◌++◌, ◌∷◌, ◌<◌, [], IfOk, OnErr, OnOk};
 ghost use Rattle.flight_graph.specs.Text.{atom_text, number_text, string_text};
 ghost use Rattle.flight_graph.specs.Writing.{comma_before};
 ghost use Rattle.flight_link.specs.Drafted.{Fits, byte, number, parts, plain};
@@ -48,7 +48,8 @@ impl Draft {
     pub fn push_str(&mut self, piece: &str) -> Result<(), Memory>
         ensures { OnOk result (self.new ≡ self.old ++ plain piece.now) }
     {
-        self.text.push_str(piece)
+        let written = self.text.push_str(piece);
+        kept(written, &mut self.gaps, &mut self.passed)
     }
 
     /// Appends a character of ASCII.
@@ -56,35 +57,40 @@ impl Draft {
         requires { character < 128 }
         ensures { OnOk result (self.new ≡ self.old ++ byte character ∷ []) }
     {
-        self.text.push(character)
+        let written = self.text.push(character);
+        kept(written, &mut self.gaps, &mut self.passed)
     }
 
     /// Appends an atom.
     pub fn push_atom(&mut self, atom: &Atom) -> Result<(), Memory>
         ensures { OnOk result (self.new ≡ self.old ++ plain (atom_text atom.now)) }
     {
-        write_atom(&mut self.text, atom)
+        let written = write_atom(&mut self.text, atom);
+        kept(written, &mut self.gaps, &mut self.passed)
     }
 
     /// Appends a text as a JSON string.
     pub fn push_string(&mut self, text: &str) -> Result<(), Memory>
         ensures { OnOk result (self.new ≡ self.old ++ plain (string_text text.now)) }
     {
-        write_string(&mut self.text, text)
+        let written = write_string(&mut self.text, text);
+        kept(written, &mut self.gaps, &mut self.passed)
     }
 
     /// Appends a number.
     pub fn push_number(&mut self, number: usize) -> Result<(), Memory>
         ensures { OnOk result (self.new ≡ self.old ++ plain (number_text number)) }
     {
-        write_number(&mut self.text, number)
+        let written = write_number(&mut self.text, number);
+        kept(written, &mut self.gaps, &mut self.passed)
     }
 
     /// Appends a comma, but before the first of a row.
     pub fn push_comma(&mut self, at: usize) -> Result<(), Memory>
         ensures { OnOk result (self.new ≡ self.old ++ plain (comma_before at)) }
     {
-        write_comma(&mut self.text, at)
+        let written = write_comma(&mut self.text, at);
+        kept(written, &mut self.gaps, &mut self.passed)
     }
 
     /// Leaves a gap for the number of a key. More than 2^32 bytes between two gaps are want of memory.
@@ -112,4 +118,22 @@ impl Draft {
         } = self;
         Ok((text.into_bytes()?, gaps))
     }
+}
+
+/// What came of writing. Where memory was wanted, nothing is known of the text, and no gap may stand in it.
+#[inline]
+fn kept(
+    written: Result<(), Memory>,
+    gaps: &mut Vec<Gap>,
+    passed: &mut usize,
+) -> Result<(), Memory>
+    ensures result { result ≡ written }
+    ensures ok { OnOk written ((gaps.new.items ≡ gaps.old.items) × (passed.new ≡ passed.old)) }
+    ensures err { OnErr written ((gaps.new.items ≡ []) × (passed.new ≡ 0)) }
+{
+    if written.is_err() {
+        gaps.clear();
+        *passed = 0;
+    }
+    written
 }
