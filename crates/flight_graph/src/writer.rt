@@ -1,4 +1,4 @@
-ghost use Rattle.std.specs.Prelude.{◌≡◌, ◌++◌, ◌∷◌, ◌<◌, [], OnOk, IfOk};
+ghost use Rattle.std.specs.Prelude.{◌≡◌, ◌++◌, ◌∷◌, ◌<◌, [], OnOk, IfOk, length};
 
 use arrayvec::ArrayVec;
 use flight_value::{Memory, Text};
@@ -39,21 +39,36 @@ impl Writer {
         }
     }
 
+    /// How many bytes have been written. More than a `usize` counts are want of memory.
+    #[inline]
+    pub fn count(&self) -> Result<usize, Memory>
+        ensures { IfOk result (λ n. n ≡ length self.now) }
+    {
+        self.text
+            .len()
+            .checked_add(self.gathered.len())
+            .ok_or(Memory)
+    }
+
     /// Appends a piece.
     #[inline]
     pub fn push_str(&mut self, piece: &str) -> Result<(), Memory>
         ensures { OnOk result (self.new ≡ self.old ++ piece.now) }
     {
-        if self
-            .gathered
-            .try_extend_from_slice(piece.as_bytes())
-            .is_ok()
-        {
+        self.push_bytes(piece.as_bytes())
+    }
+
+    /// Appends bytes. They need be no text: only the whole has to be one.
+    #[inline]
+    pub fn push_bytes(&mut self, piece: &[u8]) -> Result<(), Memory>
+        ensures { OnOk result (self.new ≡ self.old ++ piece.now) }
+    {
+        if self.gathered.try_extend_from_slice(piece).is_ok() {
             return Ok(());
         }
         self.text.extend_from_slice(self.gathered.as_slice())?;
         self.gathered = ArrayVec::new();
-        self.text.extend_from_slice(piece.as_bytes())?;
+        self.text.extend_from_slice(piece)?;
         Ok(())
     }
 
@@ -71,15 +86,22 @@ impl Writer {
         Ok(())
     }
 
-    /// The text.
-    pub fn into_text(self) -> Result<Text, Memory>
-        ensures { IfOk result (λ t. t ≡ self) }
+    /// The bytes.
+    pub fn into_bytes(self) -> Result<Vec<u8>, Memory>
+        ensures { IfOk result (λ bytes. bytes.items ≡ self) }
     {
         let Writer { text, gathered } = self;
         let mut text = text;
         text.extend_from_slice(gathered.as_slice())?;
+        Ok(text)
+    }
+
+    /// The text. Bytes that are none are answered as want of memory: a writer of texts does not meet them.
+    pub fn into_text(self) -> Result<Text, Memory>
+        ensures { IfOk result (λ t. t ≡ self) }
+    {
+        let text = self.into_bytes()?;
         if !simdutf8::basic::from_utf8(text.as_slice()).is_ok() {
-            // Each piece was a text.
             return Err(Memory);
         }
         // SAFETY: it was tested just now.

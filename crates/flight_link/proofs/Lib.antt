@@ -23,6 +23,7 @@ pub mod Drawing
 pub mod Drawn
 pub mod LaidOut
 pub mod Lines
+pub mod Drafts
 pub mod Valid
 pub mod Actions
 pub mod RowsOfNodes

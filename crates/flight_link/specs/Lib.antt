@@ -16,4 +16,5 @@ pub mod Marks
 pub mod Numbering
 pub mod Drawing
 pub mod Laid
+pub mod Drafted
 pub mod Ordering
