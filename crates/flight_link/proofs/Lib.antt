@@ -24,6 +24,7 @@ pub mod Drawn
 pub mod LaidOut
 pub mod Lines
 pub mod Drafts
+pub mod Parts
 pub mod Valid
 pub mod Actions
 pub mod RowsOfNodes

@@ -1,20 +1,8 @@
-use Rattle.flight_graph.specs.Text.{slot_text}
-use Rattle.flight_graph.proofs.Rows.{commas_more}
-use Rattle.flight_link.specs.Slots.{IsTargetOfSome}
-use Rattle.flight_link.specs.Laid.{LeadsToNumber, slot_of}
-use Rattle.flight_link.proofs.Lines.{all_more, at_item}
-use Rattle.flight_link.proofs.table.Table.write_slots.Goals as goal
-
-pub write_slot-requires-clause-target : goal.write_slot-requires-clause-target
-write_slot-requires-clause-target c = at_item (IsTargetOfSome c.args.self.now.rows.items) c.args.targets.now c.loop-at.at c.index-targets-at.result c.requires.targets c.loop-at-test.true c.index-targets-at.is
+use Rattle.flight_link.specs.Drafted.{slot_parts}
+use Rattle.flight_link.proofs.Parts.{commas_more}
+use Rattle.flight_link.proofs.text.write_slots.Goals as goal
 
 pub loop-at-preserved : goal.loop-at-preserved
 loop-at-preserved c =
-    let rows = c.args.self.now.rows.items in
-    let numbers = c.args.numbers.now in
-    record {
-      text =
-          commas_more (slot_of rows numbers) slot_text c.args.targets.now c.loop-at.at c.index-targets-at.result c.args.out.now c.loop-at.out c.write_comma.new.out c.write_slot.new.out
-          c.loop-at-test.true c.index-targets-at.is c.loop-at.invariant.text c.in_ok-write_comma.ensures c.in_ok-write_slot.ensures.text;
-      numbered = all_more (LeadsToNumber rows numbers) c.args.targets.now c.loop-at.at c.index-targets-at.result c.loop-at-test.true c.index-targets-at.is c.loop-at.invariant.numbered c.in_ok-write_slot.ensures.numbered;
-    }
+    commas_more slot_parts c.args.targets.now c.loop-at.at c.index-targets-at.result c.args.out.now c.loop-at.out c.push_comma.new.self c.write_slot.new.out
+    c.loop-at-test.true c.index-targets-at.is c.loop-at.invariant c.in_ok-push_comma.ensures c.in_ok-write_slot.ensures

@@ -1,11 +1,6 @@
 use Rattle.std.proofs.Common.{◌≡◌, ◌++◌, take}
-use Rattle.std.specs.Prelude.{All}
-use Rattle.flight_graph.specs.Text.{commas, slot_text}
-use Rattle.flight_link.specs.Laid.{LeadsToNumber, slots_for}
-use Rattle.flight_link.proofs.table.Table.write_slots.Given as goal
+use Rattle.flight_link.specs.Drafted.{commas_parts, slot_parts}
+use Rattle.flight_link.proofs.text.write_slots.Given as goal
 
 abbrev pub invariant-loop-at : goal.invariant-loop-at
-invariant-loop-at l = record {
-  text : l.out ≡ l.initial.out ++ commas slot_text (slots_for l.self.rows.items l.numbers (take l.at l.targets));
-  numbered : All (LeadsToNumber l.self.rows.items l.numbers) (take l.at l.targets);
-}
+invariant-loop-at l = l.out ≡ l.initial.out ++ commas_parts slot_parts (take l.at l.targets)
