@@ -22,6 +22,7 @@ pub mod Drawing
 pub mod Drawn
 pub mod LaidOut
 pub mod Lines
+pub mod Gaps
 pub mod Valid
 pub mod Actions
 pub mod RowsOfNodes
