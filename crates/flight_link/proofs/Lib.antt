@@ -25,6 +25,7 @@ pub mod LaidOut
 pub mod Lines
 pub mod Drafts
 pub mod Parts
+pub mod Gaps
 pub mod Valid
 pub mod Actions
 pub mod RowsOfNodes

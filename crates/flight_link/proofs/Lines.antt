@@ -238,7 +238,7 @@ some_targets rows (w ∷ ws) (x ∷ xs) h = all_cons (IsTargetOfSome rows) x xs 
 some_targets rows [] (x ∷ xs) h = absurd h
 some_targets rows (w ∷ ws) [] h = absurd h
 
-abbrev DrawsKey : List PlacedRow → List NodeKey → NodeKey → Node → Type 0
+abbrev pub DrawsKey : List PlacedRow → List NodeKey → NodeKey → Node → Type 0
 DrawsKey rows keys key x = DrawsNode rows keys (identity_of rows key) x
 
 pub lines_none : (rows : List PlacedRow) (keys : List NodeKey) (old : List ℕ) → WritesNodes rows keys [] old old
@@ -265,14 +265,14 @@ both_ok (Err e) f p q = tt
 pub next_written : (t : Table) (n : Numbers) (key : NodeKey) (h : Head) (xs ys : List Target) (number : ℕ) (old new : List ℕ) → IsTable t → AreNumbered t.rows.items n → ys ≡ xs → IsLaid t.rows.items key h xs → new ≡ old ++ line_text number (node_with h (slots_for t.rows.items n ys)) → All (LeadsToNumber t.rows.items n) ys → WritesNode t.rows.items n.keys.items key number old new
 next_written t n key h xs ys number old new table are e laid text num = (node_with h (slots_for t.rows.items n ys), node_drawn t n key h ys table are (subst (IsLaid t.rows.items key h) (sym e) laid) num, text)
 
-key_at : (rows : List PlacedRow) (keys ks : List NodeKey) (nodes : List Node) (i : ℕ) (x : Node) → AllZip (DrawsKey rows keys) ks nodes → slice_get nodes i ≡ Some x → (key : NodeKey) × (slice_get ks i ≡ Some key) × DrawsKey rows keys key x
+pub key_at : (rows : List PlacedRow) (keys ks : List NodeKey) (nodes : List Node) (i : ℕ) (x : Node) → AllZip (DrawsKey rows keys) ks nodes → slice_get nodes i ≡ Some x → (key : NodeKey) × (slice_get ks i ≡ Some key) × DrawsKey rows keys key x
 key_at rows keys [] [] i x h e = absurd (none-some x e)
 key_at rows keys (k ∷ ks) (y ∷ ys) zero x h e = (k, refl, subst (DrawsKey rows keys k) (same_Some y x e) h.0)
 key_at rows keys (k ∷ ks) (y ∷ ys) (suc i) x h e = key_at rows keys ks ys i x h.1 e
 key_at rows keys [] (y ∷ ys) i x h e = absurd h
 key_at rows keys (k ∷ ks) [] i x h e = absurd h
 
-below_top : (m n top : ℕ) → m ≡ n → m < top → n < top
+pub below_top : (m n top : ℕ) → m ≡ n → m < top → n < top
 below_top m n top e h = subst (λ k. k < top) e h
 
 pub text_under : (t : Table) (n : Numbers) (root : Target) (text o1 o2 o3 o4 o5 : List ℕ) → IsTable t → AreNumbered t.rows.items n → LeadsToNumber t.rows.items n root → IsTargetOf t.rows.items (value_of 0) root → length n.keys.items < 2 ^ 32 → o1 ≡ [] → o2 ≡ o1 ++ codes "root " → o3 ≡ o2 ++ slot_text (slot_of t.rows.items n root) → o4 ≡ o3 ++ codes "\n" → WritesNodes t.rows.items n.keys.items n.keys.items o4 o5 → text ≡ o5 → IsTextUnder t.rows.items n.keys.items text

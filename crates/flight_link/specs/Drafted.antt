@@ -117,8 +117,11 @@ pub record IsDrafted (rows : List PlacedRow) (keys : List NodeKey) (draft : List
   pub is_draft : draft ≡ plain (codes "root ") ++ slot_parts root ++ plain (codes "\n") ++ lines_parts 0 nodes
 
 -- a line more, of the node of this key
-abbrev pub DraftsNode : List PlacedRow → NodeKey → ℕ → List Part → List Part → Type 0
-DraftsNode rows key n old new = (h : Head) × ((targets : List Target) × IsLaid rows key h targets × (new ≡ old ++ line_parts n h targets))
+pub record DraftsNode (rows : List PlacedRow) (key : NodeKey) (n : ℕ) (old new : List Part) : Type 0 where
+  pub head : Head
+  pub targets : List Target
+  pub is_laid : IsLaid rows key head targets
+  pub line : new ≡ old ++ line_parts n head targets
 
 -- with the number of each key at its gap
 abbrev pub IsFilled : List PlacedRow → Numbers → List Part → List ℕ → Type 0

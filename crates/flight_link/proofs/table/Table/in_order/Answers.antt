@@ -1,18 +1,21 @@
 use Rattle.std.proofs.Common.{◌≡◌, ◌<◌, ◌++◌, List, [], length, rules, sym, ◌∙◌, ap, subst, arith}
 use Rattle.std.proofs.lemmas.List.{nil_from_length}
 use Rattle.flight_link.specs.declared.key.NodeKey.{NodeKey}
+use Rattle.flight_link.specs.Drafted.{IsDrafted}
 use Rattle.flight_link.specs.Ordering.{IsOnWay, key_in, turns_left}
 use Rattle.flight_link.proofs.Drawing.{apart}
+use Rattle.flight_link.proofs.Gaps.{draft_begun}
 use Rattle.flight_link.proofs.Ordering.{begins, ends, taken_turns}
 use Rattle.flight_link.proofs.table.Table.in_order.Goals as goal
 
 pub keys-init : goal.keys-init
 keys-init c =
     let rows = c.args.self.now.rows.items in
-    let waits = c.in_ok-push_key.ensures ∙ ap (λ (x : List NodeKey). x ++ key_in c.target_of.result) c.new-waiting.ensures.items in
+    let waits = c.in_ok-push_key.ensures ∙ ap (λ (x : List NodeKey). x ++ key_in c.target_of-root.result) c.new-waiting.ensures.items in
     record {
       numbered = c.in_ok-numbers.ensures.numbered rows c.requires.bases.is_total;
-      on_way = subst (λ ks. IsOnWay rows ks c.push_key.new.waiting.items) (sym c.in_ok-numbers.ensures.none) (subst (IsOnWay rows []) (sym waits) (begins c.args.self.now c.target_of.result c.requires.linked.table c.target_of.ensures));
+      on_way = subst (λ ks. IsOnWay rows ks c.push_key.new.waiting.items) (sym c.in_ok-numbers.ensures.none) (subst (IsOnWay rows []) (sym waits) (begins c.args.self.now c.target_of-root.result c.requires.linked.table c.target_of-root.ensures));
+      drafted = subst (λ ks. IsDrafted rows ks c.draft_root.new.draft) (sym c.in_ok-numbers.ensures.none) (draft_begun rows c.target_of-root.result c.args.draft.now c.draft_root.new.draft c.target_of-root.ensures c.requires.empty c.in_ok-draft_root.ensures);
     }
 
 pub keys-smaller : goal.keys-smaller

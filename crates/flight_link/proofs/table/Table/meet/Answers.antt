@@ -1,3 +1,4 @@
+use Rattle.flight_link.proofs.Gaps.{draft_more}
 use Rattle.flight_link.proofs.Ordering.{passed_numbered, visited, visited_turns}
 use Rattle.flight_link.proofs.table.Table.meet.Goals as goal
 
@@ -9,3 +10,6 @@ returns-in_ok-visit-clause-turns c = visited_turns c.args.self.now.rows.items c.
 
 pub returns-else-is_none-clause-on_way : goal.returns-else-is_none-clause-on_way
 returns-else-is_none-clause-on_way c = passed_numbered c.args.self.now.rows.items c.args.numbers.now c.args.waiting.now.items c.args.key c.number_of.result c.is_none.result c.requires.on_way c.requires.numbered c.number_of.ensures c.is_none.ensures c.if-is_none.false
+
+pub returns-in_ok-visit-clause-drafted : goal.returns-in_ok-visit-clause-drafted
+returns-in_ok-visit-clause-drafted c = draft_more c.args.self.now.rows.items c.args.numbers.now.keys.items c.visit.new.numbers.keys.items c.args.key c.args.draft.now c.visit.new.draft c.requires.drafted c.in_ok-visit.ensures.visits.keys c.in_ok-visit.ensures.drafts
