@@ -101,8 +101,8 @@ pairs_same rows n (k ∷ []) = refl
 pairs_same rows n (k ∷ v ∷ ts) = ap (λ ps. record { key = slot_of rows n k; value = slot_of rows n v } ∷ ps) (pairs_same rows n ts)
 
 -- within brackets
-within : (f : NodeKey → List ℕ) (open close : List ℕ) (p : List Part) (x : List ℕ) → fill f p ≡ x → fill f (plain open ++ p ++ plain close) ≡ open ++ x ++ close
-within f open close p x h = lead f open (p ++ plain close) (x ++ close) (both f p (plain close) x close h (fill_plain f close))
+within : (f : NodeKey → List ℕ) (left right : List ℕ) (p : List Part) (x : List ℕ) → fill f p ≡ x → fill f (plain left ++ p ++ plain right) ≡ left ++ x ++ right
+within f left right p x h = lead f left (p ++ plain right) (x ++ right) (both f p (plain right) x right h (fill_plain f right))
 
 node_filled : (rows : List PlacedRow) (n : Numbers) (h : Head) (ts : List Target) → IsCount h (length ts) → fill (NumberText rows n) (node_parts h ts) ≡ node_text (node_with h (slots_for rows n ts))
 node_filled rows n head.Array ts c = within (NumberText rows n) (codes "array [") (codes "]") (commas_parts slot_parts ts) (commas slot_text (slots_for rows n ts)) (commas_filled (NumberText rows n) slot_parts slot_text (slot_of rows n) (slot_filled rows n) ts)
@@ -203,10 +203,12 @@ keys_named P (n ∷ ns) (t ∷ ts) e h = (keys_rest P (plain (codes ":")) (slot_
 twos_keys : (P : NodeKey → Type 0) (ts : List Target) → Each (Holds P) ts → Each (λ p. AllKeys P (pair_parts p)) (in_twos ts)
 twos_keys P [] h = tt
 twos_keys P (k ∷ []) h = tt
-twos_keys P (k ∷ v ∷ ts) h =
-    (keys_lead P (codes "[") (slot_parts k ++ plain (codes ",") ++ slot_parts v ++ plain (codes "]"))
-    (keys_append P (slot_parts k) (plain (codes ",") ++ slot_parts v ++ plain (codes "]")) h.0
-    (keys_lead P (codes ",") (slot_parts v ++ plain (codes "]")) (keys_append P (slot_parts v) (plain (codes "]")) h.1.0 (keys_plain P (codes "]"))))), twos_keys P ts h.1.1)
+twos_keys P (k ∷ v ∷ ts) h = (
+  keys_lead P (codes "[") (slot_parts k ++ plain (codes ",") ++ slot_parts v ++ plain (codes "]"))
+      (keys_append P (slot_parts k) (plain (codes ",") ++ slot_parts v ++ plain (codes "]")) h.0
+      (keys_lead P (codes ",") (slot_parts v ++ plain (codes "]")) (keys_append P (slot_parts v) (plain (codes "]")) h.1.0 (keys_plain P (codes "]"))))),
+  twos_keys P ts h.1.1,
+)
 
 keys_twos : (P : NodeKey → Type 0) (ts : List Target) (m : ℕ) → length ts ≡ m + m → Each (λ p. AllKeys P (pair_parts p)) (in_twos ts) → Each (Holds P) ts
 keys_twos P [] m e h = tt
@@ -217,11 +219,11 @@ keys_twos P (k ∷ v ∷ ts) (suc m) e h =
     let behind = keys_rest P (plain (codes ",")) (slot_parts v ++ plain (codes "]")) (keys_rest P (slot_parts k) (plain (codes ",") ++ slot_parts v ++ plain (codes "]")) inner) in
     (keys_front P (slot_parts k) (plain (codes ",") ++ slot_parts v ++ plain (codes "]")) inner, keys_front P (slot_parts v) (plain (codes "]")) behind, keys_twos P ts m (omega (arith, e)) h.1)
 
-bracket_keys : (P : NodeKey → Type 0) (open close : List ℕ) (p : List Part) → AllKeys P p → AllKeys P (plain open ++ p ++ plain close)
-bracket_keys P open close p h = keys_lead P open (p ++ plain close) (keys_append P p (plain close) h (keys_plain P close))
+bracket_keys : (P : NodeKey → Type 0) (left right : List ℕ) (p : List Part) → AllKeys P p → AllKeys P (plain left ++ p ++ plain right)
+bracket_keys P left right p h = keys_lead P left (p ++ plain right) (keys_append P p (plain right) h (keys_plain P right))
 
-keys_bracket : (P : NodeKey → Type 0) (open close : List ℕ) (p : List Part) → AllKeys P (plain open ++ p ++ plain close) → AllKeys P p
-keys_bracket P open close p h = keys_front P p (plain close) (keys_rest P (plain open) (p ++ plain close) h)
+keys_bracket : (P : NodeKey → Type 0) (left right : List ℕ) (p : List Part) → AllKeys P (plain left ++ p ++ plain right) → AllKeys P p
+keys_bracket P left right p h = keys_front P p (plain right) (keys_rest P (plain left) (p ++ plain right) h)
 
 node_keys : (P : NodeKey → Type 0) (h : Head) (ts : List Target) → IsCount h (length ts) → Each (Holds P) ts → AllKeys P (node_parts h ts)
 node_keys P head.Array ts c e = bracket_keys P (codes "array [") (codes "]") (commas_parts slot_parts ts) (commas_keys P slot_parts ts e)
@@ -324,10 +326,11 @@ lines_keys t i (k ∷ ks) [] table h = absurd h
 
 lines_drawn : (t : Table) (n : Numbers) (i : ℕ) (ks : List NodeKey) (nodes : List (Head × List Target)) → IsTable t → AreNumbered t.rows.items n → AllZip (LaidKey t.rows.items) ks nodes → AllKeys (IsNumbered t.rows.items n) (lines_parts i nodes) → AllZip (DrawsKey t.rows.items n.keys.items) ks (map (node_of t.rows.items n) nodes)
 lines_drawn t n i [] [] table are h num = tt
-lines_drawn t n i (k ∷ ks) (x ∷ xs) table are h num =
-    (node_drawn t n k x.0 x.1 table are h.0
-        (all_numbered t.rows.items n x.1 (keys_line (IsNumbered t.rows.items n) i x.0 x.1 h.0.count (keys_front (IsNumbered t.rows.items n) (line_parts i x.0 x.1) (lines_parts (i + 1) xs) num))),
-    lines_drawn t n (i + 1) ks xs table are h.1 (keys_rest (IsNumbered t.rows.items n) (line_parts i x.0 x.1) (lines_parts (i + 1) xs) num))
+lines_drawn t n i (k ∷ ks) (x ∷ xs) table are h num = (
+  node_drawn t n k x.0 x.1 table are h.0
+      (all_numbered t.rows.items n x.1 (keys_line (IsNumbered t.rows.items n) i x.0 x.1 h.0.count (keys_front (IsNumbered t.rows.items n) (line_parts i x.0 x.1) (lines_parts (i + 1) xs) num))),
+  lines_drawn t n (i + 1) ks xs table are h.1 (keys_rest (IsNumbered t.rows.items n) (line_parts i x.0 x.1) (lines_parts (i + 1) xs) num),
+)
 lines_drawn t n i [] (x ∷ xs) table are h num = absurd h
 lines_drawn t n i (k ∷ ks) [] table are h num = absurd h
 

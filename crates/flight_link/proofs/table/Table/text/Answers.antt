@@ -21,4 +21,4 @@ returns c =
     let table = c.requires.linked.table in
     IfOk-weaker c.filled.result (IsFilled rows n c.in_order.new.draft) (λ t. (g : Graph) × IsValid g × DrawOneGraph (of_graph g) (meaning rows) × (t ≡ text_of g))
     (λ t h. text_right rows n.keys.items t table.fine (apart rows n table.plain c.in_ok-numbers.ensures.numbered) c.in_ok-numbers.ensures.ordered
-        (filled_under c.args.self.now n c.in_order.new.draft t table c.in_ok-numbers.ensures.numbered c.in_ok-within.ensures c.in_ok-numbers.ensures.drafted h)) c.filled.ensures
+    (filled_under c.args.self.now n c.in_order.new.draft t table c.in_ok-numbers.ensures.numbered c.in_ok-within.ensures c.in_ok-numbers.ensures.drafted h)) c.filled.ensures
