@@ -122,11 +122,7 @@ impl Draft {
 
 /// What came of writing. Where memory was wanted, nothing is known of the text, and no gap may stand in it.
 #[inline]
-fn kept(
-    written: Result<(), Memory>,
-    gaps: &mut Vec<Gap>,
-    passed: &mut usize,
-) -> Result<(), Memory>
+fn kept(written: Result<(), Memory>, gaps: &mut Vec<Gap>, passed: &mut usize) -> Result<(), Memory>
     ensures result { result ≡ written }
     ensures ok { OnOk written ((gaps.new.items ≡ gaps.old.items) × (passed.new ≡ passed.old)) }
     ensures err { OnErr written ((gaps.new.items ≡ []) × (passed.new ≡ 0)) }
