@@ -13,8 +13,9 @@
 //! #1 object {"self":#1}
 //! ```
 //!
-//! [`write_atom`], [`write_number`], [`write_string`], [`write_comma`] and [`put`] append the pieces of that text, for who
-//! prints a graph that it does not hold.
+//! [`write_atom`], [`write_number`], [`write_string`], [`write_comma`] and [`put`] append the pieces of that text to a
+//! [`Writer`], for who prints a graph that it does not hold. A writer tells how many bytes it has, and gives them as a
+//! text or as bytes: who leaves gaps in a text fills them in another.
 //!
 //! Walking and printing take time and memory in proportion to the nodes, the slots and the text; no machine
 //! stack grows with the graph.

@@ -243,3 +243,33 @@ fn looks_along_paths(rt: HostRuntime) -> Result<(), Fail> {
     }
     Ok(())
 }
+
+#[test]
+fn writer_keeps_every_piece(rt: HostRuntime) -> Result<(), Fail> {
+    let mut out = Writer::new(rt.alloc());
+    for _ in 0..600 {
+        out.push_str("ab")?;
+    }
+    out.push_bytes([0x63; 2000].as_slice())?;
+    out.push(b'd')?;
+    assert_eq!(rt; out.count()?, 3201);
+    let bytes = out.into_bytes()?;
+    assert_eq!(rt; bytes.len(), 3201);
+    assert_eq!(rt; &bytes.as_slice()[..2], b"ab".as_slice());
+    assert_eq!(rt; &bytes.as_slice()[1198..1201], b"abc".as_slice());
+    assert_eq!(rt; &bytes.as_slice()[3199..], b"cd".as_slice());
+    Ok(())
+}
+
+#[test]
+fn bytes_of_no_text_are_refused(rt: HostRuntime) -> Result<(), Fail> {
+    let mut out = Writer::new(rt.alloc());
+    // A character in two pieces, and then half of one.
+    out.push_bytes([0xC3].as_slice())?;
+    out.push_bytes([0xA9].as_slice())?;
+    assert_eq!(rt; out.into_text()?.as_str(), "é");
+    let mut half = Writer::new(rt.alloc());
+    half.push_bytes([0xC3].as_slice())?;
+    assert!(rt; half.into_text().is_err());
+    Ok(())
+}

@@ -1,7 +1,7 @@
 -- Texts with gaps: what a piece more or a gap more makes of their parts, and how the gaps are filled.
-use Rattle.std.proofs.Common.{◌≡◌, ℕ, ◌+◌, ◌-◌, ◌<◌, ◌≤◌, List, [], ◌∷◌, ◌++◌, length, map, take, drop, get_or, Ok, Err, refl, sym, ◌∙◌, ap, subst, arith, append_assoc, append-nil}
+use Rattle.std.proofs.Common.{◌≡◌, ℕ, ◌+◌, ◌-◌, ◌<◌, ◌≤◌, List, [], ◌∷◌, ◌++◌, length, take, drop, get_or, Ok, Err, refl, sym, ◌∙◌, ap, subst, arith, append_assoc}
 use Rattle.std.specs.Prelude.{Result, OnErr, OnOk}
-use Rattle.std.proofs.lemmas.List.{take-append-le, drop-append-le, length-append, length-drop, length-take-le, map-append, drop_all, drop_more}
+use Rattle.std.proofs.lemmas.List.{take-append-le, drop-append-le, length-append, length-drop, map-append, drop_all, drop_more}
 use Rattle.std.proofs.Math.Seq.{take-length}
 use Rattle.flight_link.specs.declared.gap.Gap.{Gap}
 use Rattle.flight_link.specs.declared.key.NodeKey.{NodeKey}
@@ -130,13 +130,13 @@ gap-numbered P t rest gs i g d less e is_rest p h =
     subst (λ x. AllKeys P (parts t x)) (sym (next_gap gs i g d less e))
     (keys-before P (take g.before t) (number g.key ∷ parts (drop g.before t) (drop (i + 1) gs)) (p, subst (λ x. AllKeys P (parts x (drop (i + 1) gs))) is_rest h))
 
-pub gap-filled : (f : NodeKey → List ℕ) (t rest : List ℕ) (gs : List Gap) (i : ℕ) (g d : Gap) (old new all : List ℕ) → i < length gs → g ≡ get_or gs i d → rest ≡ drop g.before t → new ≡ old ++ (take g.before t ++ f g.key) → old ++ fill f (parts t (drop i gs)) ≡ all → new ++ fill f (parts rest (drop (i + 1) gs)) ≡ all
+pub gap-filled : (f : NodeKey → List ℕ) (t rest : List ℕ) (gs : List Gap) (i : ℕ) (g d : Gap) (old new all : List ℕ) → i < length gs → g ≡ get_or gs i d → rest ≡ drop g.before t → new ≡ old ++ take g.before t ++ f g.key → old ++ fill f (parts t (drop i gs)) ≡ all → new ++ fill f (parts rest (drop (i + 1) gs)) ≡ all
 gap-filled f t rest gs i g d old new all less e is_rest is_new so_far =
     let left : List Part = parts (drop g.before t) (drop (i + 1) gs) in
     ap (λ x. new ++ fill f (parts x (drop (i + 1) gs))) is_rest
     ∙ (ap (λ x. x ++ fill f left) is_new
-    ∙ (append_assoc old (take g.before t ++ f g.key) (fill f left)
-    ∙ (ap (λ x. old ++ x) (append_assoc (take g.before t) (f g.key) (fill f left))
+    ∙ (append_assoc (old ++ take g.before t) (f g.key) (fill f left)
+    ∙ (append_assoc old (take g.before t) (f g.key ++ fill f left)
     ∙ (ap (λ x. old ++ x) (sym (fill-plain f (take g.before t) (number g.key ∷ left)))
     ∙ (ap (λ x. old ++ fill f (parts t x)) (sym (next_gap gs i g d less e)) ∙ so_far)))))
 
