@@ -1,7 +1,5 @@
-ghost use Rattle.std.specs.Prelude.{◌≡◌, ◌≢◌, ◌<◌, List, ℕ, Err, IfOk};
+ghost use Rattle.std.specs.Prelude.{◌≡◌, ◌≢◌, ◌<◌, Err, IfOk};
 ghost use Rattle.flight_value.specs.Graph.{IsValid};
-ghost use Rattle.flight_value.specs.declared.graph.Graph.{Graph};
-ghost use Rattle.flight_graph.specs.Text.{text_of};
 ghost use Rattle.flight_client.specs.Faults.{EndsWithFault};
 ghost use Rattle.flight_client.specs.Held.{HasTaken};
 ghost use Rattle.flight_client.specs.Meant.{IsMeant};
@@ -9,7 +7,7 @@ ghost use Rattle.flight_client.specs.declared.fault.ClientFault.{ClientFault};
 
 use crate::client::Client;
 use crate::fault::ClientFault;
-use flight_value::{Graph, Text};
+use flight_value::Graph;
 use std::alloc::Global;
 
 /// The graph of a whole stream that is taken in pieces of so many bytes, or its first fault. Neither hangs on the
@@ -22,18 +20,6 @@ pub fn decode_stream(alloc: Global, cut: usize, stream: &[u8]) -> Result<Graph, 
 {
     match taken(alloc, cut, stream) {
         Ok(client) => client.finish(alloc),
-        Err(fault) => Err(fault),
-    }
-}
-
-/// The canonical text of that graph, which is not built, or the first fault of the stream.
-pub fn decode_text(alloc: Global, cut: usize, stream: &[u8]) -> Result<Text, ClientFault>
-    requires { 0 < cut }
-    ensures meant { IfOk result (λ t. (g : Graph) × IsValid g × IsMeant stream.now g × (t ≡ text_of g)) }
-    ensures fault { (f : ClientFault) → result ≡ Err f → f ≢ ClientFault.Memory → EndsWithFault stream.now f }
-{
-    match taken(alloc, cut, stream) {
-        Ok(mut client) => client.end_text(alloc),
         Err(fault) => Err(fault),
     }
 }

@@ -4,7 +4,7 @@
 //! (React 19.0, `processBinaryChunk` and `resolveModelChunk` of ReactFlightClient). Which rows a stream has, which
 //! fault is its first, and when it is good are said of the bytes as a whole (`specs/Rows.antt`, `specs/Faults.antt`);
 //! where a client stands in a text hangs on the text alone (`HasTaken` of `specs/Held.antt`), not on the pieces.
-//! [`decode_stream`] and [`decode_text`] say so of whole streams, and [`one_reading`] that each text has one reading.
+//! [`decode_stream`] says so of whole streams, and [`one_reading`] that each text has one reading.
 //!
 //! A row's bytes are dropped as soon as its places are made. Time and memory are linear in the bytes, however they are
 //! cut.
@@ -21,6 +21,6 @@ mod rows;
 mod tests;
 
 pub use client::Client;
-pub use decode::{decode_stream, decode_text};
+pub use decode::decode_stream;
 pub use fault::ClientFault;
 pub use law::{labels_stay, marks_tell_nodes, no_place_stays, one_reading, partial_as_seen};

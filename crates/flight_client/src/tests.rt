@@ -196,7 +196,11 @@ fn keeps_a_fault(rt: HostRuntime) {
 fn stays_behind_its_text(rt: HostRuntime) -> Result<(), Fail> {
     let mut client = fed(&rt, 65_536, "0:[]\n");
     for _ in 0..2 {
-        assert!(rt; client.end_text(rt.alloc()).is_ok_and(|text| text.as_str() == "root #0\n#0 array []\n"));
+        assert!(rt;
+            client
+                .end_text(rt.alloc())
+                .is_ok_and(|text| text.as_str() == "root #0\n#0 array []\n")
+        );
     }
     assert!(rt; array_at(&client, [].as_slice()).is_some());
     assert!(rt; client.feed(b"1:".as_slice()) == Ok(()));
