@@ -24,16 +24,13 @@ use Rattle.flight_link.specs.Targets.{IsTargetOf}
 use Rattle.flight_link.specs.Drawing.{Draws, AreDrawn}
 use Rattle.flight_link.specs.Laid.{IsCount, IsLaid, IsNumbered, IsTextUnder, LeadsToNumber, node_with, number_in, pairs_of, props_of, slot_of, slots_for}
 use Rattle.flight_link.specs.Drafted.{Part, byte, number, plain, fill, AllKeys, slot_parts, more_parts, commas_parts, prop_parts, with_names, pair_parts, in_twos, node_parts, line_parts, lines_parts, DraftsNode, IsDrafted, IsFilled}
+use Rattle.flight_link.proofs.Drafts.{fill-plain_only, keys-before, keys-plain}
 use Rattle.flight_link.proofs.Drawing.{zip_push}
 use Rattle.flight_link.proofs.LaidOut.{zip_long}
 use Rattle.flight_link.proofs.Lines.{all_none, all_cons, below_top, DrawsKey, key_at, node_drawn, slot_drawn}
 use Rattle.flight_link.proofs.Slots.{node_place}
 
 -- ---- texts
-
-pub fill_plain : (f : NodeKey → List ℕ) (s : List ℕ) → fill f (plain s) ≡ s
-fill_plain f [] = refl
-fill_plain f (b ∷ s) = ap (λ x. b ∷ x) (fill_plain f s)
 
 pub fill_append : (f : NodeKey → List ℕ) (p q : List Part) → fill f (p ++ q) ≡ fill f p ++ fill f q
 fill_append f [] q = refl
@@ -46,13 +43,17 @@ both f p q x y hp hq = fill_append f p q ∙ (ap (λ z. z ++ fill f q) hp ∙ ap
 
 -- bytes and then a piece
 lead : (f : NodeKey → List ℕ) (s : List ℕ) (q : List Part) (y : List ℕ) → fill f q ≡ y → fill f (plain s ++ q) ≡ s ++ y
-lead f s q y h = both f (plain s) q s y (fill_plain f s) h
+lead f s q y h = both f (plain s) q s y (fill-plain_only f s) h
+
+-- a piece and then bytes
+behind : (f : NodeKey → List ℕ) (p : List Part) (s x : List ℕ) → fill f p ≡ x → fill f (p ++ plain s) ≡ x ++ s
+behind f p s x h = both f p (plain s) x s h (fill-plain_only f s)
 
 abbrev NumberText : List PlacedRow → Numbers → NodeKey → List ℕ
 NumberText rows n key = number_text (number_in rows n key)
 
 slot_filled : (rows : List PlacedRow) (n : Numbers) (t : Target) → fill (NumberText rows n) (slot_parts t) ≡ slot_text (slot_of rows n t)
-slot_filled rows n (target.Atom a) = fill_plain (NumberText rows n) (atom_text a.now)
+slot_filled rows n (target.Atom a) = fill-plain_only (NumberText rows n) (atom_text a.now)
 slot_filled rows n (target.Node s) = append-nil (number_text (number_in rows n (Made s)))
 slot_filled rows n (target.Promise id) = append-nil (number_text (number_in rows n (Promise id)))
 slot_filled rows n (target.Action id) = append-nil (number_text (number_in rows n (Action id)))
@@ -75,8 +76,8 @@ prop_in rows n p = record { name = p.0.name; slot = slot_of rows n p.1 }
 prop_filled : (rows : List PlacedRow) (n : Numbers) (p : Named × Target) → fill (NumberText rows n) (prop_parts p) ≡ prop_text (prop_in rows n p)
 prop_filled rows n p =
     let f = NumberText rows n in
-    lead f (string_text p.0.name) (plain (codes ":") ++ slot_parts p.1) (codes ":" ++ slot_text (slot_of rows n p.1))
-    (lead f (codes ":") (slot_parts p.1) (slot_text (slot_of rows n p.1)) (slot_filled rows n p.1))
+    both f (plain (string_text p.0.name) ++ plain (codes ":")) (slot_parts p.1) (string_text p.0.name ++ codes ":") (slot_text (slot_of rows n p.1))
+    (lead f (string_text p.0.name) (plain (codes ":")) (codes ":") (fill-plain_only f (codes ":"))) (slot_filled rows n p.1)
 
 props_same : (rows : List PlacedRow) (n : Numbers) (ns : List Named) (ts : List Target) → map (prop_in rows n) (with_names ns ts) ≡ props_of ns (slots_for rows n ts)
 props_same rows n [] ts = refl
@@ -91,9 +92,10 @@ pair_filled rows n p =
     let f = NumberText rows n in
     let k = slot_text (slot_of rows n p.0) in
     let v = slot_text (slot_of rows n p.1) in
-    let end : fill f (slot_parts p.1 ++ plain (codes "]")) ≡ v ++ codes "]" = both f (slot_parts p.1) (plain (codes "]")) v (codes "]") (slot_filled rows n p.1) (fill_plain f (codes "]")) in
-    let rest : fill f (slot_parts p.0 ++ plain (codes ",") ++ slot_parts p.1 ++ plain (codes "]")) ≡ k ++ codes "," ++ v ++ codes "]" = both f (slot_parts p.0) (plain (codes ",") ++ slot_parts p.1 ++ plain (codes "]")) k (codes "," ++ v ++ codes "]") (slot_filled rows n p.0) (lead f (codes ",") (slot_parts p.1 ++ plain (codes "]")) (v ++ codes "]") end) in
-    lead f (codes "[") (slot_parts p.0 ++ plain (codes ",") ++ slot_parts p.1 ++ plain (codes "]")) (k ++ codes "," ++ v ++ codes "]") rest
+    let key : fill f (plain (codes "[") ++ slot_parts p.0) ≡ codes "[" ++ k = lead f (codes "[") (slot_parts p.0) k (slot_filled rows n p.0) in
+    let comma : fill f (plain (codes "[") ++ slot_parts p.0 ++ plain (codes ",")) ≡ codes "[" ++ k ++ codes "," = behind f (plain (codes "[") ++ slot_parts p.0) (codes ",") (codes "[" ++ k) key in
+    let value : fill f (plain (codes "[") ++ slot_parts p.0 ++ plain (codes ",") ++ slot_parts p.1) ≡ codes "[" ++ k ++ codes "," ++ v = both f (plain (codes "[") ++ slot_parts p.0 ++ plain (codes ",")) (slot_parts p.1) (codes "[" ++ k ++ codes ",") v comma (slot_filled rows n p.1) in
+    behind f (plain (codes "[") ++ slot_parts p.0 ++ plain (codes ",") ++ slot_parts p.1) (codes "]") (codes "[" ++ k ++ codes "," ++ v) value
 
 pairs_same : (rows : List PlacedRow) (n : Numbers) (ts : List Target) → map (pair_in rows n) (in_twos ts) ≡ pairs_of (slots_for rows n ts)
 pairs_same rows n [] = refl
@@ -102,7 +104,7 @@ pairs_same rows n (k ∷ v ∷ ts) = ap (λ ps. record { key = slot_of rows n k;
 
 -- within brackets
 within : (f : NodeKey → List ℕ) (left right : List ℕ) (p : List Part) (x : List ℕ) → fill f p ≡ x → fill f (plain left ++ p ++ plain right) ≡ left ++ x ++ right
-within f left right p x h = lead f left (p ++ plain right) (x ++ right) (both f p (plain right) x right h (fill_plain f right))
+within f left right p x h = behind f (plain left ++ p) right (left ++ x) (lead f left p x h)
 
 node_filled : (rows : List PlacedRow) (n : Numbers) (h : Head) (ts : List Target) → IsCount h (length ts) → fill (NumberText rows n) (node_parts h ts) ≡ node_text (node_with h (slots_for rows n ts))
 node_filled rows n head.Array ts c = within (NumberText rows n) (codes "array [") (codes "]") (commas_parts slot_parts ts) (commas slot_text (slots_for rows n ts)) (commas_filled (NumberText rows n) slot_parts slot_text (slot_of rows n) (slot_filled rows n) ts)
@@ -116,16 +118,16 @@ node_filled rows n head.Set ts c = within (NumberText rows n) (codes "set [") (c
 node_filled rows n head.Element (x ∷ y ∷ z ∷ []) c =
     let f = NumberText rows n in
     let text = λ (t : Target). slot_text (slot_of rows n t) in
-    let third : fill f (plain (codes " ") ++ slot_parts z) ≡ codes " " ++ text z = lead f (codes " ") (slot_parts z) (text z) (slot_filled rows n z) in
-    let second : fill f (plain (codes " ") ++ slot_parts y ++ plain (codes " ") ++ slot_parts z) ≡ codes " " ++ text y ++ codes " " ++ text z = lead f (codes " ") (slot_parts y ++ plain (codes " ") ++ slot_parts z) (text y ++ codes " " ++ text z) (both f (slot_parts y) (plain (codes " ") ++ slot_parts z) (text y) (codes " " ++ text z) (slot_filled rows n y) third) in
-    lead f (codes "element ") (slot_parts x ++ plain (codes " ") ++ slot_parts y ++ plain (codes " ") ++ slot_parts z) (text x ++ codes " " ++ text y ++ codes " " ++ text z)
-    (both f (slot_parts x) (plain (codes " ") ++ slot_parts y ++ plain (codes " ") ++ slot_parts z) (text x) (codes " " ++ text y ++ codes " " ++ text z) (slot_filled rows n x) second)
+    let first : fill f (plain (codes "element ") ++ slot_parts x ++ plain (codes " ")) ≡ codes "element " ++ text x ++ codes " " = within f (codes "element ") (codes " ") (slot_parts x) (text x) (slot_filled rows n x) in
+    let second : fill f (plain (codes "element ") ++ slot_parts x ++ plain (codes " ") ++ slot_parts y) ≡ codes "element " ++ text x ++ codes " " ++ text y = both f (plain (codes "element ") ++ slot_parts x ++ plain (codes " ")) (slot_parts y) (codes "element " ++ text x ++ codes " ") (text y) first (slot_filled rows n y) in
+    let blank : fill f (plain (codes "element ") ++ slot_parts x ++ plain (codes " ") ++ slot_parts y ++ plain (codes " ")) ≡ codes "element " ++ text x ++ codes " " ++ text y ++ codes " " = behind f (plain (codes "element ") ++ slot_parts x ++ plain (codes " ") ++ slot_parts y) (codes " ") (codes "element " ++ text x ++ codes " " ++ text y) second in
+    both f (plain (codes "element ") ++ slot_parts x ++ plain (codes " ") ++ slot_parts y ++ plain (codes " ")) (slot_parts z) (codes "element " ++ text x ++ codes " " ++ text y ++ codes " ") (text z) blank (slot_filled rows n z)
 node_filled rows n head.Promise (x ∷ []) c = lead (NumberText rows n) (codes "promise ") (slot_parts x) (slot_text (slot_of rows n x)) (slot_filled rows n x)
 node_filled rows n (head.Action id) (x ∷ []) c =
     let f = NumberText rows n in
-    let s = slot_text (slot_of rows n x) in
-    lead f (codes "action ") (plain (string_text id.now) ++ plain (codes " ") ++ slot_parts x) (string_text id.now ++ codes " " ++ s)
-    (lead f (string_text id.now) (plain (codes " ") ++ slot_parts x) (codes " " ++ s) (lead f (codes " ") (slot_parts x) s (slot_filled rows n x)))
+    let name : fill f (plain (codes "action ") ++ plain (string_text id.now)) ≡ codes "action " ++ string_text id.now = lead f (codes "action ") (plain (string_text id.now)) (string_text id.now) (fill-plain_only f (string_text id.now)) in
+    let blank : fill f (plain (codes "action ") ++ plain (string_text id.now) ++ plain (codes " ")) ≡ codes "action " ++ string_text id.now ++ codes " " = behind f (plain (codes "action ") ++ plain (string_text id.now)) (codes " ") (codes "action " ++ string_text id.now) name in
+    both f (plain (codes "action ") ++ plain (string_text id.now) ++ plain (codes " ")) (slot_parts x) (codes "action " ++ string_text id.now ++ codes " ") (slot_text (slot_of rows n x)) blank (slot_filled rows n x)
 node_filled rows n head.Element [] c = absurd (omega (arith, c))
 node_filled rows n head.Element (x ∷ []) c = absurd (omega (arith, c))
 node_filled rows n head.Element (x ∷ y ∷ []) c = absurd (omega (arith, c))
@@ -139,13 +141,11 @@ line_filled : (rows : List PlacedRow) (n : Numbers) (i : ℕ) (h : Head) (ts : L
 line_filled rows n i h ts c =
     let f = NumberText rows n in
     let x = node_text (node_with h (slots_for rows n ts)) in
-    lead f (number_text i) (plain (codes " ") ++ node_parts h ts ++ plain (codes "\n")) (codes " " ++ x ++ codes "\n") (within f (codes " ") (codes "\n") (node_parts h ts) x (node_filled rows n h ts c))
+    let number : fill f (plain (number_text i) ++ plain (codes " ")) ≡ number_text i ++ codes " " = lead f (number_text i) (plain (codes " ")) (codes " ") (fill-plain_only f (codes " ")) in
+    let node : fill f (plain (number_text i) ++ plain (codes " ") ++ node_parts h ts) ≡ number_text i ++ codes " " ++ x = both f (plain (number_text i) ++ plain (codes " ")) (node_parts h ts) (number_text i ++ codes " ") x number (node_filled rows n h ts c) in
+    behind f (plain (number_text i) ++ plain (codes " ") ++ node_parts h ts) (codes "\n") (number_text i ++ codes " " ++ x) node
 
 -- ---- keys
-
-keys_plain : (P : NodeKey → Type 0) (s : List ℕ) → AllKeys P (plain s)
-keys_plain P [] = tt
-keys_plain P (b ∷ s) = keys_plain P s
 
 pub keys_append : (P : NodeKey → Type 0) (p q : List Part) → AllKeys P p → AllKeys P q → AllKeys P (p ++ q)
 keys_append P [] q h k = k
@@ -162,8 +162,8 @@ keys_rest P [] q h = h
 keys_rest P (byte b ∷ p) q h = keys_rest P p q h
 keys_rest P (number key ∷ p) q h = keys_rest P p q h.1
 
-keys_lead : (P : NodeKey → Type 0) (s : List ℕ) (q : List Part) → AllKeys P q → AllKeys P (plain s ++ q)
-keys_lead P s q h = keys_append P (plain s) q (keys_plain P s) h
+keys_then : (P : NodeKey → Type 0) (p : List Part) (s : List ℕ) → AllKeys P p → AllKeys P (p ++ plain s)
+keys_then P p s h = keys_append P p (plain s) h (keys-plain P s)
 
 -- each of a list, item by item
 abbrev Each : {A : Type 0} → (A → Type 0) → List A → Type 0
@@ -176,7 +176,7 @@ Holds P t = AllKeys P (slot_parts t)
 
 more_keys : {A : Type 0} (P : NodeKey → Type 0) (each : A → List Part) (xs : List A) → Each (λ x. AllKeys P (each x)) xs → AllKeys P (more_parts each xs)
 more_keys P each [] h = tt
-more_keys P each (x ∷ xs) h = keys_append P (plain (codes ",") ++ each x) (more_parts each xs) (keys_lead P (codes ",") (each x) h.0) (more_keys P each xs h.1)
+more_keys P each (x ∷ xs) h = keys_append P (plain (codes ",") ++ each x) (more_parts each xs) (keys-before P (codes ",") (each x) h.0) (more_keys P each xs h.1)
 
 commas_keys : {A : Type 0} (P : NodeKey → Type 0) (each : A → List Part) (xs : List A) → Each (λ x. AllKeys P (each x)) xs → AllKeys P (commas_parts each xs)
 commas_keys P each [] h = tt
@@ -193,37 +193,34 @@ keys_commas P each (x ∷ xs) h = (keys_front P (each x) (more_parts each xs) h,
 named_keys : (P : NodeKey → Type 0) (ns : List Named) (ts : List Target) → Each (Holds P) ts → Each (λ p. AllKeys P (prop_parts p)) (with_names ns ts)
 named_keys P [] ts h = tt
 named_keys P (n ∷ ns) [] h = tt
-named_keys P (n ∷ ns) (t ∷ ts) h = (keys_lead P (string_text n.name) (plain (codes ":") ++ slot_parts t) (keys_lead P (codes ":") (slot_parts t) h.0), named_keys P ns ts h.1)
+named_keys P (n ∷ ns) (t ∷ ts) h = (keys_append P (plain (string_text n.name) ++ plain (codes ":")) (slot_parts t) (keys-before P (string_text n.name) (plain (codes ":")) tt) h.0, named_keys P ns ts h.1)
 
 keys_named : (P : NodeKey → Type 0) (ns : List Named) (ts : List Target) → length ts ≡ length ns → Each (λ p. AllKeys P (prop_parts p)) (with_names ns ts) → Each (Holds P) ts
 keys_named P ns [] e h = tt
 keys_named P [] (t ∷ ts) e h = absurd (omega (arith, e))
-keys_named P (n ∷ ns) (t ∷ ts) e h = (keys_rest P (plain (codes ":")) (slot_parts t) (keys_rest P (plain (string_text n.name)) (plain (codes ":") ++ slot_parts t) h.0), keys_named P ns ts (omega (arith, e)) h.1)
+keys_named P (n ∷ ns) (t ∷ ts) e h = (keys_rest P (plain (string_text n.name) ++ plain (codes ":")) (slot_parts t) h.0, keys_named P ns ts (omega (arith, e)) h.1)
 
 twos_keys : (P : NodeKey → Type 0) (ts : List Target) → Each (Holds P) ts → Each (λ p. AllKeys P (pair_parts p)) (in_twos ts)
 twos_keys P [] h = tt
 twos_keys P (k ∷ []) h = tt
-twos_keys P (k ∷ v ∷ ts) h = (
-  keys_lead P (codes "[") (slot_parts k ++ plain (codes ",") ++ slot_parts v ++ plain (codes "]"))
-      (keys_append P (slot_parts k) (plain (codes ",") ++ slot_parts v ++ plain (codes "]")) h.0
-      (keys_lead P (codes ",") (slot_parts v ++ plain (codes "]")) (keys_append P (slot_parts v) (plain (codes "]")) h.1.0 (keys_plain P (codes "]"))))),
-  twos_keys P ts h.1.1,
-)
+twos_keys P (k ∷ v ∷ ts) h =
+    let key = keys_then P (plain (codes "[") ++ slot_parts k) (codes ",") (keys-before P (codes "[") (slot_parts k) h.0) in
+    (keys_then P (plain (codes "[") ++ slot_parts k ++ plain (codes ",") ++ slot_parts v) (codes "]") (keys_append P (plain (codes "[") ++ slot_parts k ++ plain (codes ",")) (slot_parts v) key h.1.0), twos_keys P ts h.1.1)
 
 keys_twos : (P : NodeKey → Type 0) (ts : List Target) (m : ℕ) → length ts ≡ m + m → Each (λ p. AllKeys P (pair_parts p)) (in_twos ts) → Each (Holds P) ts
 keys_twos P [] m e h = tt
 keys_twos P (k ∷ []) m e h = absurd (omega (arith, e))
 keys_twos P (k ∷ v ∷ ts) zero e h = absurd (omega (arith, e))
 keys_twos P (k ∷ v ∷ ts) (suc m) e h =
-    let inner = keys_rest P (plain (codes "[")) (slot_parts k ++ plain (codes ",") ++ slot_parts v ++ plain (codes "]")) h.0 in
-    let behind = keys_rest P (plain (codes ",")) (slot_parts v ++ plain (codes "]")) (keys_rest P (slot_parts k) (plain (codes ",") ++ slot_parts v ++ plain (codes "]")) inner) in
-    (keys_front P (slot_parts k) (plain (codes ",") ++ slot_parts v ++ plain (codes "]")) inner, keys_front P (slot_parts v) (plain (codes "]")) behind, keys_twos P ts m (omega (arith, e)) h.1)
+    let both = keys_front P (plain (codes "[") ++ slot_parts k ++ plain (codes ",") ++ slot_parts v) (plain (codes "]")) h.0 in
+    let key = keys_front P (plain (codes "[") ++ slot_parts k) (plain (codes ",")) (keys_front P (plain (codes "[") ++ slot_parts k ++ plain (codes ",")) (slot_parts v) both) in
+    (keys_rest P (plain (codes "[")) (slot_parts k) key, keys_rest P (plain (codes "[") ++ slot_parts k ++ plain (codes ",")) (slot_parts v) both, keys_twos P ts m (omega (arith, e)) h.1)
 
 bracket_keys : (P : NodeKey → Type 0) (left right : List ℕ) (p : List Part) → AllKeys P p → AllKeys P (plain left ++ p ++ plain right)
-bracket_keys P left right p h = keys_lead P left (p ++ plain right) (keys_append P p (plain right) h (keys_plain P right))
+bracket_keys P left right p h = keys_then P (plain left ++ p) right (keys-before P left p h)
 
 keys_bracket : (P : NodeKey → Type 0) (left right : List ℕ) (p : List Part) → AllKeys P (plain left ++ p ++ plain right) → AllKeys P p
-keys_bracket P left right p h = keys_front P p (plain right) (keys_rest P (plain left) (p ++ plain right) h)
+keys_bracket P left right p h = keys_rest P (plain left) p (keys_front P (plain left ++ p) (plain right) h)
 
 node_keys : (P : NodeKey → Type 0) (h : Head) (ts : List Target) → IsCount h (length ts) → Each (Holds P) ts → AllKeys P (node_parts h ts)
 node_keys P head.Array ts c e = bracket_keys P (codes "array [") (codes "]") (commas_parts slot_parts ts) (commas_keys P slot_parts ts e)
@@ -231,11 +228,13 @@ node_keys P (head.Object named) ts c e = bracket_keys P (codes "object {") (code
 node_keys P head.Map ts c e = bracket_keys P (codes "map [") (codes "]") (commas_parts pair_parts (in_twos ts)) (commas_keys P pair_parts (in_twos ts) (twos_keys P ts e))
 node_keys P head.Set ts c e = bracket_keys P (codes "set [") (codes "]") (commas_parts slot_parts ts) (commas_keys P slot_parts ts e)
 node_keys P head.Element (x ∷ y ∷ z ∷ []) c e =
-    keys_lead P (codes "element ") (slot_parts x ++ plain (codes " ") ++ slot_parts y ++ plain (codes " ") ++ slot_parts z)
-    (keys_append P (slot_parts x) (plain (codes " ") ++ slot_parts y ++ plain (codes " ") ++ slot_parts z) e.0
-    (keys_lead P (codes " ") (slot_parts y ++ plain (codes " ") ++ slot_parts z) (keys_append P (slot_parts y) (plain (codes " ") ++ slot_parts z) e.1.0 (keys_lead P (codes " ") (slot_parts z) e.1.1.0))))
-node_keys P head.Promise (x ∷ []) c e = keys_lead P (codes "promise ") (slot_parts x) e.0
-node_keys P (head.Action id) (x ∷ []) c e = keys_lead P (codes "action ") (plain (string_text id.now) ++ plain (codes " ") ++ slot_parts x) (keys_lead P (string_text id.now) (plain (codes " ") ++ slot_parts x) (keys_lead P (codes " ") (slot_parts x) e.0))
+    let first = bracket_keys P (codes "element ") (codes " ") (slot_parts x) e.0 in
+    let second = keys_then P (plain (codes "element ") ++ slot_parts x ++ plain (codes " ") ++ slot_parts y) (codes " ") (keys_append P (plain (codes "element ") ++ slot_parts x ++ plain (codes " ")) (slot_parts y) first e.1.0) in
+    keys_append P (plain (codes "element ") ++ slot_parts x ++ plain (codes " ") ++ slot_parts y ++ plain (codes " ")) (slot_parts z) second e.1.1.0
+node_keys P head.Promise (x ∷ []) c e = keys-before P (codes "promise ") (slot_parts x) e.0
+node_keys P (head.Action id) (x ∷ []) c e =
+    let name = keys_then P (plain (codes "action ") ++ plain (string_text id.now)) (codes " ") (keys-before P (codes "action ") (plain (string_text id.now)) (keys-plain P (string_text id.now))) in
+    keys_append P (plain (codes "action ") ++ plain (string_text id.now) ++ plain (codes " ")) (slot_parts x) name e.0
 node_keys P head.Element [] c e = absurd (omega (arith, c))
 node_keys P head.Element (x ∷ []) c e = absurd (omega (arith, c))
 node_keys P head.Element (x ∷ y ∷ []) c e = absurd (omega (arith, c))
@@ -251,12 +250,12 @@ keys_node P (head.Object named) ts c e = keys_named P named.now ts c (keys_comma
 keys_node P head.Map ts c e = keys_twos P ts c.0 c.1 (keys_commas P pair_parts (in_twos ts) (keys_bracket P (codes "map [") (codes "]") (commas_parts pair_parts (in_twos ts)) e))
 keys_node P head.Set ts c e = keys_commas P slot_parts ts (keys_bracket P (codes "set [") (codes "]") (commas_parts slot_parts ts) e)
 keys_node P head.Element (x ∷ y ∷ z ∷ []) c e =
-    let first = keys_rest P (plain (codes "element ")) (slot_parts x ++ plain (codes " ") ++ slot_parts y ++ plain (codes " ") ++ slot_parts z) e in
-    let second = keys_rest P (plain (codes " ")) (slot_parts y ++ plain (codes " ") ++ slot_parts z) (keys_rest P (slot_parts x) (plain (codes " ") ++ slot_parts y ++ plain (codes " ") ++ slot_parts z) first) in
-    let third = keys_rest P (plain (codes " ")) (slot_parts z) (keys_rest P (slot_parts y) (plain (codes " ") ++ slot_parts z) second) in
-    (keys_front P (slot_parts x) (plain (codes " ") ++ slot_parts y ++ plain (codes " ") ++ slot_parts z) first, keys_front P (slot_parts y) (plain (codes " ") ++ slot_parts z) second, third, tt)
+    let fourth = keys_front P (plain (codes "element ") ++ slot_parts x ++ plain (codes " ") ++ slot_parts y ++ plain (codes " ")) (slot_parts z) e in
+    let second = keys_front P (plain (codes "element ") ++ slot_parts x ++ plain (codes " ") ++ slot_parts y) (plain (codes " ")) fourth in
+    let first = keys_front P (plain (codes "element ") ++ slot_parts x ++ plain (codes " ")) (slot_parts y) second in
+    (keys_bracket P (codes "element ") (codes " ") (slot_parts x) first, keys_rest P (plain (codes "element ") ++ slot_parts x ++ plain (codes " ")) (slot_parts y) second, keys_rest P (plain (codes "element ") ++ slot_parts x ++ plain (codes " ") ++ slot_parts y ++ plain (codes " ")) (slot_parts z) e, tt)
 keys_node P head.Promise (x ∷ []) c e = (keys_rest P (plain (codes "promise ")) (slot_parts x) e, tt)
-keys_node P (head.Action id) (x ∷ []) c e = (keys_rest P (plain (codes " ")) (slot_parts x) (keys_rest P (plain (string_text id.now)) (plain (codes " ") ++ slot_parts x) (keys_rest P (plain (codes "action ")) (plain (string_text id.now) ++ plain (codes " ") ++ slot_parts x) e)), tt)
+keys_node P (head.Action id) (x ∷ []) c e = (keys_rest P (plain (codes "action ") ++ plain (string_text id.now) ++ plain (codes " ")) (slot_parts x) e, tt)
 keys_node P head.Element [] c e = absurd (omega (arith, c))
 keys_node P head.Element (x ∷ []) c e = absurd (omega (arith, c))
 keys_node P head.Element (x ∷ y ∷ []) c e = absurd (omega (arith, c))
@@ -267,15 +266,17 @@ keys_node P (head.Action id) [] c e = absurd (omega (arith, c))
 keys_node P (head.Action id) (x ∷ y ∷ ts) c e = absurd (omega (arith, c))
 
 line_keys : (P : NodeKey → Type 0) (i : ℕ) (h : Head) (ts : List Target) → IsCount h (length ts) → Each (Holds P) ts → AllKeys P (line_parts i h ts)
-line_keys P i h ts c e = keys_lead P (number_text i) (plain (codes " ") ++ node_parts h ts ++ plain (codes "\n")) (bracket_keys P (codes " ") (codes "\n") (node_parts h ts) (node_keys P h ts c e))
+line_keys P i h ts c e =
+    let number = keys-before P (number_text i) (plain (codes " ")) (keys-plain P (codes " ")) in
+    keys_then P (plain (number_text i) ++ plain (codes " ") ++ node_parts h ts) (codes "\n") (keys_append P (plain (number_text i) ++ plain (codes " ")) (node_parts h ts) number (node_keys P h ts c e))
 
 keys_line : (P : NodeKey → Type 0) (i : ℕ) (h : Head) (ts : List Target) → IsCount h (length ts) → AllKeys P (line_parts i h ts) → Each (Holds P) ts
-keys_line P i h ts c e = keys_node P h ts c (keys_bracket P (codes " ") (codes "\n") (node_parts h ts) (keys_rest P (plain (number_text i)) (plain (codes " ") ++ node_parts h ts ++ plain (codes "\n")) e))
+keys_line P i h ts c e = keys_node P h ts c (keys_rest P (plain (number_text i) ++ plain (codes " ")) (node_parts h ts) (keys_front P (plain (number_text i) ++ plain (codes " ") ++ node_parts h ts) (plain (codes "\n")) e))
 
 -- ---- what targets hold
 
 target_key : (t : Table) (w : Written) (x : Target) → IsTable t → IsTargetOf t.rows.items w x → Holds (IsKey t.rows.items) x
-target_key t w (target.Atom a) table h = keys_plain (IsKey t.rows.items) (atom_text a.now)
+target_key t w (target.Atom a) table h = keys-plain (IsKey t.rows.items) (atom_text a.now)
 target_key t w (target.Node s) table h = (node_place t s w table h, tt)
 target_key t w (target.Promise id) table h = (tt, tt)
 target_key t w (target.Action id) table h = (tt, tt)
@@ -347,10 +348,8 @@ lines_parts_snoc i (y ∷ xs) x =
 pub draft_keys : (t : Table) (keys : List NodeKey) (draft : List Part) → IsTable t → IsDrafted t.rows.items keys draft → AllKeys (IsKey t.rows.items) draft
 draft_keys t keys draft table d =
     let P = IsKey t.rows.items in
-    subst (AllKeys P) (sym d.is_draft)
-    (keys_lead P (codes "root ") (slot_parts d.root ++ plain (codes "\n") ++ lines_parts 0 d.nodes)
-    (keys_append P (slot_parts d.root) (plain (codes "\n") ++ lines_parts 0 d.nodes) (target_key t (value_of 0) d.root table d.leads)
-    (keys_lead P (codes "\n") (lines_parts 0 d.nodes) (lines_keys t 0 keys d.nodes table d.laid))))
+    let line = bracket_keys P (codes "root ") (codes "\n") (slot_parts d.root) (target_key t (value_of 0) d.root table d.leads) in
+    subst (AllKeys P) (sym d.is_draft) (keys_append P (plain (codes "root ") ++ slot_parts d.root ++ plain (codes "\n")) (lines_parts 0 d.nodes) line (lines_keys t 0 keys d.nodes table d.laid))
 
 pub filled_under : (t : Table) (n : Numbers) (draft : List Part) (text : List ℕ) → IsTable t → AreNumbered t.rows.items n → length n.keys.items < 2 ^ 32 → IsDrafted t.rows.items n.keys.items draft → IsFilled t.rows.items n draft text → IsTextUnder t.rows.items n.keys.items text
 filled_under t n draft text table are few d filled =
@@ -358,16 +357,16 @@ filled_under t n draft text table are few d filled =
     let f = NumberText rows n in
     let P = IsNumbered rows n in
     let num : AllKeys P (plain (codes "root ") ++ slot_parts d.root ++ plain (codes "\n") ++ lines_parts 0 d.nodes) = subst (AllKeys P) d.is_draft filled.0 in
-    let num_slot = keys_rest P (plain (codes "root ")) (slot_parts d.root ++ plain (codes "\n") ++ lines_parts 0 d.nodes) num in
-    let num_lines : AllKeys P (lines_parts 0 d.nodes) = keys_rest P (plain (codes "\n")) (lines_parts 0 d.nodes) (keys_rest P (slot_parts d.root) (plain (codes "\n") ++ lines_parts 0 d.nodes) num_slot) in
-    let leads : LeadsToNumber rows n d.root = leads_numbered rows n d.root (keys_front P (slot_parts d.root) (plain (codes "\n") ++ lines_parts 0 d.nodes) num_slot) in
+    let num_line = keys_front P (plain (codes "root ") ++ slot_parts d.root ++ plain (codes "\n")) (lines_parts 0 d.nodes) num in
+    let num_lines : AllKeys P (lines_parts 0 d.nodes) = keys_rest P (plain (codes "root ") ++ slot_parts d.root ++ plain (codes "\n")) (lines_parts 0 d.nodes) num in
+    let leads : LeadsToNumber rows n d.root = leads_numbered rows n d.root (keys_bracket P (codes "root ") (codes "\n") (slot_parts d.root) num_line) in
     let nodes : List Node = map (node_of rows n) d.nodes in
     let drawn : AllZip (DrawsKey rows n.keys.items) n.keys.items nodes = lines_drawn t n 0 n.keys.items d.nodes table are d.laid num_lines in
     let long : length n.keys.items ≡ length nodes = zip_long (DrawsKey rows n.keys.items) n.keys.items nodes drawn in
     let root : List ℕ = slot_text (slot_of rows n d.root) in
     let whole : fill f (plain (codes "root ") ++ slot_parts d.root ++ plain (codes "\n") ++ lines_parts 0 d.nodes) ≡ codes "root " ++ root ++ codes "\n" ++ lines_from 0 nodes =
-    lead f (codes "root ") (slot_parts d.root ++ plain (codes "\n") ++ lines_parts 0 d.nodes) (root ++ codes "\n" ++ lines_from 0 nodes)
-    (both f (slot_parts d.root) (plain (codes "\n") ++ lines_parts 0 d.nodes) root (codes "\n" ++ lines_from 0 nodes) (slot_filled rows n d.root) (lead f (codes "\n") (lines_parts 0 d.nodes) (lines_from 0 nodes) (lines_filled rows n 0 n.keys.items d.nodes d.laid))) in
+    both f (plain (codes "root ") ++ slot_parts d.root ++ plain (codes "\n")) (lines_parts 0 d.nodes) (codes "root " ++ root ++ codes "\n") (lines_from 0 nodes)
+    (within f (codes "root ") (codes "\n") (slot_parts d.root) root (slot_filled rows n d.root)) (lines_filled rows n 0 n.keys.items d.nodes d.laid) in
     record {
       root = slot_of rows n d.root;
       nodes = nodes;
@@ -389,7 +388,7 @@ draft_begun rows root old new leads empty e = record {
   leads = leads;
   nodes = [];
   laid = tt;
-  is_draft = e ∙ (ap (λ (x : List Part). x ++ plain (codes "root ") ++ slot_parts root ++ plain (codes "\n")) empty ∙ ap (λ (x : List Part). plain (codes "root ") ++ slot_parts root ++ x) (sym (append-nil (plain (codes "\n")))));
+  is_draft = e ∙ (ap (λ (x : List Part). x ++ plain (codes "root ") ++ slot_parts root ++ plain (codes "\n")) empty ∙ sym (append-nil (plain (codes "root ") ++ slot_parts root ++ plain (codes "\n"))));
 }
 
 pub draft_more : (rows : List PlacedRow) (keys new : List NodeKey) (key : NodeKey) (d d' : List Part) → IsDrafted rows keys d → new ≡ keys ++ key ∷ [] → DraftsNode rows key (length keys) d d' → IsDrafted rows new d'
@@ -407,9 +406,6 @@ draft_more rows keys new key d d' drafted more x =
       is_draft =
           x.line
           ∙ (ap (λ (y : List Part). y ++ line) drafted.is_draft
-          ∙ (behind (plain (codes "root ")) (slot_parts drafted.root) (plain (codes "\n")) (lines_parts 0 drafted.nodes) line
+          ∙ (append_assoc (plain (codes "root ") ++ slot_parts drafted.root ++ plain (codes "\n")) (lines_parts 0 drafted.nodes) line
           ∙ ap (λ (y : List Part). plain (codes "root ") ++ slot_parts drafted.root ++ plain (codes "\n") ++ y) lines));
     }
-  where
-    behind : (a b c l m : List Part) → (a ++ b ++ c ++ l) ++ m ≡ a ++ b ++ c ++ l ++ m
-    behind a b c l m = append_assoc a (b ++ c ++ l) m ∙ ap (λ (y : List Part). a ++ y) (append_assoc b (c ++ l) m ∙ ap (λ (y : List Part). b ++ y) (append_assoc c l m))
