@@ -70,7 +70,7 @@ commas_filled : {A B : Type 0} (f : NodeKey → List ℕ) (each : A → List Par
 commas_filled f each text g h [] = refl
 commas_filled f each text g h (x ∷ xs) = both f (each x) (more_parts each xs) (text (g x)) (flat_map (λ y. codes "," ++ text y) (map g xs)) (h x) (more_filled f each text g h xs)
 
-prop_in : List PlacedRow → Numbers → Named × Target → Prop
+abbrev prop_in : List PlacedRow → Numbers → Named × Target → Prop
 prop_in rows n p = record { name = p.0.name; slot = slot_of rows n p.1 }
 
 prop_filled : (rows : List PlacedRow) (n : Numbers) (p : Named × Target) → fill (NumberText rows n) (prop_parts p) ≡ prop_text (prop_in rows n p)
@@ -84,7 +84,7 @@ props_same rows n [] ts = refl
 props_same rows n (m ∷ ns) [] = refl
 props_same rows n (m ∷ ns) (t ∷ ts) = ap (λ ps. record { name = m.name; slot = slot_of rows n t } ∷ ps) (props_same rows n ns ts)
 
-pair_in : List PlacedRow → Numbers → Target × Target → Pair
+abbrev pair_in : List PlacedRow → Numbers → Target × Target → Pair
 pair_in rows n p = record { key = slot_of rows n p.0; value = slot_of rows n p.1 }
 
 pair_filled : (rows : List PlacedRow) (n : Numbers) (p : Target × Target) → fill (NumberText rows n) (pair_parts p) ≡ pair_text (pair_in rows n p)
@@ -214,7 +214,8 @@ keys_twos P (k ∷ v ∷ ts) zero e h = absurd (omega (arith, e))
 keys_twos P (k ∷ v ∷ ts) (suc m) e h =
     let both = keys_front P (plain (codes "[") ++ slot_parts k ++ plain (codes ",") ++ slot_parts v) (plain (codes "]")) h.0 in
     let key = keys_front P (plain (codes "[") ++ slot_parts k) (plain (codes ",")) (keys_front P (plain (codes "[") ++ slot_parts k ++ plain (codes ",")) (slot_parts v) both) in
-    (keys_rest P (plain (codes "[")) (slot_parts k) key, keys_rest P (plain (codes "[") ++ slot_parts k ++ plain (codes ",")) (slot_parts v) both, keys_twos P ts m (omega (arith, e)) h.1)
+    let value = keys_rest P (plain (codes "[") ++ slot_parts k ++ plain (codes ",")) (slot_parts v) both in
+    (keys_rest P (plain (codes "[")) (slot_parts k) key, (value, keys_twos P ts m (omega (arith, e)) h.1))
 
 bracket_keys : (P : NodeKey → Type 0) (left right : List ℕ) (p : List Part) → AllKeys P p → AllKeys P (plain left ++ p ++ plain right)
 bracket_keys P left right p h = keys_then P (plain left ++ p) right (keys-before P left p h)
@@ -253,7 +254,8 @@ keys_node P head.Element (x ∷ y ∷ z ∷ []) c e =
     let fourth = keys_front P (plain (codes "element ") ++ slot_parts x ++ plain (codes " ") ++ slot_parts y ++ plain (codes " ")) (slot_parts z) e in
     let second = keys_front P (plain (codes "element ") ++ slot_parts x ++ plain (codes " ") ++ slot_parts y) (plain (codes " ")) fourth in
     let first = keys_front P (plain (codes "element ") ++ slot_parts x ++ plain (codes " ")) (slot_parts y) second in
-    (keys_bracket P (codes "element ") (codes " ") (slot_parts x) first, keys_rest P (plain (codes "element ") ++ slot_parts x ++ plain (codes " ")) (slot_parts y) second, keys_rest P (plain (codes "element ") ++ slot_parts x ++ plain (codes " ") ++ slot_parts y ++ plain (codes " ")) (slot_parts z) e, tt)
+    let third = keys_rest P (plain (codes "element ") ++ slot_parts x ++ plain (codes " ") ++ slot_parts y ++ plain (codes " ")) (slot_parts z) e in
+    (keys_bracket P (codes "element ") (codes " ") (slot_parts x) first, (keys_rest P (plain (codes "element ") ++ slot_parts x ++ plain (codes " ")) (slot_parts y) second, (third, tt)))
 keys_node P head.Promise (x ∷ []) c e = (keys_rest P (plain (codes "promise ")) (slot_parts x) e, tt)
 keys_node P (head.Action id) (x ∷ []) c e = (keys_rest P (plain (codes "action ") ++ plain (string_text id.now) ++ plain (codes " ")) (slot_parts x) e, tt)
 keys_node P head.Element [] c e = absurd (omega (arith, c))
@@ -306,7 +308,7 @@ all_numbered rows n (x ∷ xs) h = all_cons (LeadsToNumber rows n) x xs (leads_n
 abbrev LaidKey : List PlacedRow → NodeKey → Head × List Target → Type 0
 LaidKey rows key node = IsLaid rows key node.0 node.1
 
-node_of : List PlacedRow → Numbers → Head × List Target → Node
+abbrev node_of : List PlacedRow → Numbers → Head × List Target → Node
 node_of rows n node = node_with node.0 (slots_for rows n node.1)
 
 lines_filled : (rows : List PlacedRow) (n : Numbers) (i : ℕ) (ks : List NodeKey) (nodes : List (Head × List Target)) → AllZip (LaidKey rows) ks nodes → fill (NumberText rows n) (lines_parts i nodes) ≡ lines_from i (map (node_of rows n) nodes)

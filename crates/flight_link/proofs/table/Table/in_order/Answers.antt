@@ -13,8 +13,8 @@ keys-init c =
     let rows = c.args.self.now.rows.items in
     let waits = c.in_ok-push_key.ensures ∙ ap (λ (x : List NodeKey). x ++ key_in c.target_of-root.result) c.new-waiting.ensures.items in
     record {
-      numbered = c.in_ok-numbers.ensures.numbered rows c.requires.bases.is_total;
-      on_way = subst (λ ks. IsOnWay rows ks c.push_key.new.waiting.items) (sym c.in_ok-numbers.ensures.none) (subst (IsOnWay rows []) (sym waits) (begins c.args.self.now c.target_of-root.result c.requires.linked.table c.target_of-root.ensures));
+      numbered = c.in_ok-numbers.ensures.numbered rows c.requires.whole.bases.is_total;
+      on_way = subst (λ ks. IsOnWay rows ks c.push_key.new.waiting.items) (sym c.in_ok-numbers.ensures.none) (subst (IsOnWay rows []) (sym waits) (begins c.args.self.now c.target_of-root.result c.requires.whole.linked.table c.target_of-root.ensures));
       drafted = subst (λ ks. IsDrafted rows ks c.draft_root.new.draft) (sym c.in_ok-numbers.ensures.none) (draft_begun rows c.target_of-root.result c.args.draft.now c.draft_root.new.draft c.target_of-root.ensures c.requires.empty c.in_ok-draft_root.ensures);
     }
 
@@ -29,5 +29,5 @@ returns-clause-ordered c =
     let rows = c.args.self.now.rows.items in
     let none : length c.keys.waiting.items ≡ 0 = search rules in
     let empty : c.keys.waiting.items ≡ [] = nil_from_length c.keys.waiting.items none in
-    ends rows c.keys.numbers.keys.items (apart rows c.keys.numbers c.requires.linked.table.plain c.keys.invariant.numbered)
+    ends rows c.keys.numbers.keys.items (apart rows c.keys.numbers c.requires.whole.linked.table.plain c.keys.invariant.numbered)
     (subst (IsOnWay rows c.keys.numbers.keys.items) empty c.keys.invariant.on_way)

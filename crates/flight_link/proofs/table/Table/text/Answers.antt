@@ -1,4 +1,4 @@
-use Rattle.std.proofs.Common.{◌≡◌}
+use Rattle.std.proofs.Common.{rules, ◌≡◌, ◌<◌, ◌^◌, length}
 use Rattle.std.proofs.lemmas.Result.{IfOk-weaker}
 use Rattle.flight_value.specs.Graph.{IsValid}
 use Rattle.flight_value.specs.Store.{DrawOneGraph, of_graph}
@@ -19,6 +19,7 @@ returns c =
     let rows = c.args.self.now.rows.items in
     let n = c.in_ok-numbers.numbers in
     let table = c.requires.linked.table in
+    let few : length n.keys.items < 2 ^ 32 = search rules in
     IfOk-weaker c.filled.result (IsFilled rows n c.in_order.new.draft) (λ t. (g : Graph) × IsValid g × DrawOneGraph (of_graph g) (meaning rows) × (t ≡ text_of g))
     (λ t h. text_right rows n.keys.items t table.fine (apart rows n table.plain c.in_ok-numbers.ensures.numbered) c.in_ok-numbers.ensures.ordered
-    (filled_under c.args.self.now n c.in_order.new.draft t table c.in_ok-numbers.ensures.numbered c.in_ok-within.ensures c.in_ok-numbers.ensures.drafted h)) c.filled.ensures
+    (filled_under c.args.self.now n c.in_order.new.draft t table c.in_ok-numbers.ensures.numbered few c.in_ok-numbers.ensures.drafted h)) c.filled.ensures
