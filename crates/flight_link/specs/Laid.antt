@@ -110,10 +110,6 @@ abbrev pub pairs_of : List Slot → List Pair
 pairs_of (key ∷ value ∷ slots) = record { key = key; value = value } ∷ pairs_of slots
 pairs_of slots = []
 
--- the text of entries behind others
-abbrev pub more_pairs : List Pair → List ℕ
-more_pairs pairs = flat_map (λ p. codes "," ++ pair_text p) pairs
-
 -- with so many slots as it may have; with others, some node
 abbrev pub node_with : Head → List Slot → Node
 node_with head.Array slots = node.Array slots
@@ -126,14 +122,6 @@ node_with (head.Action id) (bound ∷ slots) = node.Action id.now bound
 node_with h slots = node.Array slots
 
 -- ---- the text
-
--- a line more, of the node of this key
-abbrev pub WritesNode : List PlacedRow → List NodeKey → NodeKey → ℕ → List ℕ → List ℕ → Type 0
-WritesNode rows keys key n old new = (drawn : Node) × DrawsNode rows keys (identity_of rows key) drawn × (new ≡ old ++ line_text n drawn)
-
--- a line for each of the nodes of these keys
-abbrev pub WritesNodes : List PlacedRow → List NodeKey → List NodeKey → List ℕ → List ℕ → Type 0
-WritesNodes rows keys front old new = (nodes : List Node) × AllZip (λ key drawn. DrawsNode rows keys (identity_of rows key) drawn) front nodes × (new ≡ old ++ lines_from 0 nodes)
 
 -- of a graph whose nodes stand under these keys
 pub record IsTextUnder (rows : List PlacedRow) (keys : List NodeKey) (text : List ℕ) : Type 0 where
