@@ -2,14 +2,13 @@
 use Rattle.std.proofs.Common.{◌≡◌, ℕ, zero, suc, ◌+◌, ◌<◌, ◌^◌, codes, List, [], ◌∷◌, ◌++◌, length, map, refl, sym, ◌∙◌, ap, subst, arith, append_assoc, append-nil}
 use Rattle.std.specs.Prelude.{All}
 use Rattle.std.specs.List.{AllZip, flat_map}
-use Rattle.flight_value.specs.declared.graph.Slot.{Slot}
 use Rattle.flight_value.specs.declared.graph.Prop.{Prop}
 use Rattle.flight_value.specs.declared.graph.Pair.{Pair}
 use Rattle.flight_value.specs.declared.graph.Node.{Node}
 use Rattle.flight_place.specs.declared.place.Named.{Named}
 use Rattle.flight_place.specs.declared.place.PlacedRow.{PlacedRow}
 use Rattle.flight_place.specs.Meaning.{Written, value_of}
-use Rattle.flight_graph.specs.Text.{atom_text, commas, graph_text, line_text, lines_from, node_text, number_text, pair_text, prop_text, slot_text, string_text}
+use Rattle.flight_graph.specs.Text.{atom_text, commas, line_text, lines_from, node_text, number_text, pair_text, prop_text, slot_text, string_text}
 use Rattle.flight_link.specs.declared.key.NodeKey.{NodeKey}
 use Rattle.flight_link.specs.declared.key.NodeKey.TheVariants.{Made, Promise, Action}
 use Rattle.flight_link.specs.declared.laid.Head.{Head}
@@ -21,7 +20,6 @@ use Rattle.flight_link.specs.declared.target.Target.TheVariants as target
 use Rattle.flight_link.specs.Nodes.{IsTable}
 use Rattle.flight_link.specs.Numbering.{AreNumbered, IsKey}
 use Rattle.flight_link.specs.Targets.{IsTargetOf}
-use Rattle.flight_link.specs.Drawing.{Draws, AreDrawn}
 use Rattle.flight_link.specs.Laid.{IsCount, IsLaid, IsNumbered, IsTextUnder, LeadsToNumber, node_with, number_in, pairs_of, props_of, slot_of, slots_for}
 use Rattle.flight_link.specs.Drafted.{Part, byte, number, plain, fill, AllKeys, slot_parts, more_parts, commas_parts, prop_parts, with_names, pair_parts, in_twos, node_parts, line_parts, lines_parts, DraftsNode, IsDrafted, IsFilled}
 use Rattle.flight_link.proofs.Drafts.{fill-plain_only, keys-before, keys-plain}

@@ -1,10 +1,9 @@
 -- Nodes, drawn from what their slots lead to.
-use Rattle.std.proofs.Common.{◌≡◌, ℕ, zero, suc, ◌+◌, ◌-◌, ◌<◌, ◌≤◌, ◌^◌, codes, List, [], ◌∷◌, ◌++◌, length, map, take, drop, get_or, Some, slice_get, Ok, Err, refl, sym, ◌∙◌, ap, subst, arith, append_assoc, append-nil}
-use Rattle.std.specs.Prelude.{All, unwrap_or, Result, OnOk}
+use Rattle.std.proofs.Common.{◌≡◌, ℕ, zero, suc, ◌+◌, ◌-◌, ◌<◌, ◌≤◌, ◌^◌, List, [], ◌∷◌, length, map, take, drop, get_or, Some, slice_get, refl, sym, ◌∙◌, ap, subst, arith}
+use Rattle.std.specs.Prelude.{All, unwrap_or}
 use Rattle.std.specs.List.{AllZip, flat_map}
-use Rattle.std.proofs.lemmas.List.{take_more, take_rest, length-map, length-take-le}
+use Rattle.std.proofs.lemmas.List.{take_rest, length-map}
 use Rattle.std.proofs.lemmas.Option.{none-some, same_Some}
-use Rattle.std.proofs.lemmas.List.Elements.{All-append}
 use Rattle.flight_value.specs.Graph.{slots_of}
 use Rattle.flight_value.specs.declared.graph.Slot.{Slot}
 use Rattle.flight_value.specs.declared.graph.Slot.TheVariants as slot
@@ -15,10 +14,7 @@ use Rattle.flight_value.specs.Store as store
 use Rattle.flight_value.specs.Store.{label_of}
 use Rattle.flight_place.specs.declared.place.Named.{Named}
 use Rattle.flight_place.specs.declared.place.PlacedRow.{PlacedRow}
-use Rattle.flight_place.specs.Meaning.{Written, value_of}
-use Rattle.flight_graph.specs.Text.{commas, pair_text, prop_text, slot_text, line_text, lines_from}
-use Rattle.flight_graph.specs.Writing.{comma_before}
-use Rattle.flight_graph.proofs.Rows.{commas-snoc, lines-snoc}
+use Rattle.flight_place.specs.Meaning.{Written}
 use Rattle.flight_link.specs.declared.key.NodeKey.{NodeKey}
 use Rattle.flight_link.specs.declared.key.NodeKey.TheVariants.{Made, Promise, Action}
 use Rattle.flight_link.specs.declared.laid.Head.{Head}
@@ -29,12 +25,10 @@ use Rattle.flight_link.specs.declared.target.Target.{Target}
 use Rattle.flight_link.specs.declared.target.Target.TheVariants as target
 use Rattle.flight_link.specs.Nodes.{IsTable}
 use Rattle.flight_link.specs.Numbering.{HasNumber, AreNumbered}
-use Rattle.flight_link.specs.Slots.{IsTargetOfSome}
 use Rattle.flight_link.specs.Targets.{IsTargetOf}
 use Rattle.flight_link.specs.Drawing.{identity_of, Draws, DrawsNode}
-use Rattle.flight_link.specs.Laid.{label_in, IsCount, IsLaid, LeadsToNumber, WritesNode, WritesNodes, IsTextUnder, slot_of, slots_for, props_of, pairs_of, node_with, more_pairs}
-use Rattle.flight_link.proofs.Drawing.{node_leads, zip_push}
-use Rattle.flight_link.proofs.LaidOut.{zip_long}
+use Rattle.flight_link.specs.Laid.{label_in, IsCount, IsLaid, LeadsToNumber, slot_of, slots_for, props_of, pairs_of, node_with}
+use Rattle.flight_link.proofs.Drawing.{node_leads}
 use Rattle.flight_link.proofs.Slots.{node_place}
 
 -- ---- each of a list

@@ -1,5 +1,5 @@
 -- A text in which the numbers of some keys are still to come.
-use Rattle.std.specs.Prelude.{ℕ, ◌+◌, ◌-◌, ◌≤◌, ◌≡◌, List, [], ◌∷◌, ◌++◌, length, map, take, drop, codes, flat_map}
+use Rattle.std.specs.Prelude.{ℕ, ◌+◌, ◌≤◌, ◌≡◌, List, [], ◌∷◌, ◌++◌, length, map, take, drop, codes, flat_map}
 use Rattle.std.specs.List.{AllZip}
 use Rattle.flight_place.specs.declared.place.Named.{Named}
 use Rattle.flight_place.specs.declared.place.PlacedRow.{PlacedRow}
@@ -14,7 +14,6 @@ use Rattle.flight_link.specs.declared.numbers.Numbers.{Numbers}
 use Rattle.flight_link.specs.declared.target.Target.{Target}
 use Rattle.flight_link.specs.declared.target.Target.TheVariants as target
 use Rattle.flight_link.specs.Targets.{IsTargetOf}
-use Rattle.flight_link.specs.Numbering.{IsKey}
 use Rattle.flight_link.specs.Laid.{IsLaid, IsNumbered, number_in}
 
 -- ---- parts

@@ -1,5 +1,5 @@
 -- A node laid out: what it is, what its slots lead to, and the text under keys of nodes.
-use Rattle.std.specs.Prelude.{ℕ, ◌+◌, ◌<◌, ◌^◌, ◌≡◌, List, [], ◌∷◌, ◌++◌, length, map, slice_get, Some, unwrap_or, codes, flat_map}
+use Rattle.std.specs.Prelude.{ℕ, ◌+◌, ◌<◌, ◌^◌, ◌≡◌, List, [], ◌∷◌, ◌++◌, length, map, slice_get, Some, unwrap_or}
 use Rattle.std.specs.List.{AllZip}
 use Rattle.flight_value.specs.declared.graph.Atom.TheVariants as atom
 use Rattle.flight_value.specs.declared.graph.Slot.{Slot}
@@ -15,7 +15,7 @@ use Rattle.flight_place.specs.declared.place.Named.{Named}
 use Rattle.flight_place.specs.declared.place.PlacedRow.{PlacedRow}
 use Rattle.flight_place.specs.Linked as linked
 use Rattle.flight_place.specs.Meaning.{Written, value_of, entries, HasShape}
-use Rattle.flight_graph.specs.Text.{pair_text, line_text, lines_from, graph_text}
+use Rattle.flight_graph.specs.Text.{graph_text}
 use Rattle.flight_link.specs.declared.key.NodeKey.{NodeKey}
 use Rattle.flight_link.specs.declared.key.NodeKey.TheVariants.{Made, Promise, Action}
 use Rattle.flight_link.specs.declared.laid.Head.{Head}
@@ -26,7 +26,7 @@ use Rattle.flight_link.specs.declared.target.Target.TheVariants as target
 use Rattle.flight_link.specs.Nodes.{place_in}
 use Rattle.flight_link.specs.Targets.{IsTargetOf}
 use Rattle.flight_link.specs.Numbering.{number_of}
-use Rattle.flight_link.specs.Drawing.{identity_of, Draws, DrawsNode, AreDrawn}
+use Rattle.flight_link.specs.Drawing.{identity_of, Draws, AreDrawn}
 
 -- ---- what stands under a key
 
