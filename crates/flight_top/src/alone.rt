@@ -29,6 +29,8 @@ fn answer<K: Sink>(sink: &mut K, status: Status, text: &str) -> Status
 
 /// The program on one thread: reads what the words ask for from the source, writes to the sink, and tells how
 /// it ended.
+///
+/// It is what a process does before it ends: the rows of a stream whose text `view` prints are not freed.
 pub fn flight_alone<S: Source, K: Sink>(
     alloc: Global,
     words: &[String],
