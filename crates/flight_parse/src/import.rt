@@ -20,7 +20,7 @@ pub fn compact(alloc: Global, read: &Json) -> Result<Text, Memory>
 {
     let value = value(alloc, read)?;
     let text = value.to_string(alloc)?;
-    Text::from_string(text)
+    Ok(Text::from_string(text)?)
 }
 
 /// JSON as a value of `serde_json`. Of a repeated property the last holds.
