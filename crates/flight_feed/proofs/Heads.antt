@@ -1,5 +1,6 @@
 -- Bytes before a payload.
-use Rattle.std.proofs.Common.{◌≡◌, ℕ, ◌<◌, true, List, [], ◌∷◌, ◌++◌, length, take, slice_index, refl, sym, arith, append-nil}
+use Rattle.std.proofs.Common.{◌≡◌, ℕ, ◌+◌, ◌<◌, true, List, [], ◌∷◌, ◌++◌, length, take, slice_index, refl, sym, arith, append-nil, append_assoc}
+use Rattle.std.proofs.lemmas.List.{take_more}
 use Rattle.flight_row.specs.declared.row.RowKind.{RowKind}
 use Rattle.flight_row.specs.declared.row.RowKind.TheVariants.{Model, Import, Error, Text, Open, Close}
 use Rattle.flight_row.specs.declared.tag.Tag.{Tag}
@@ -58,7 +59,7 @@ begins_hint head byte colon says =
     })
 
 pub no_payload : (m : Mode) (h p : List ℕ) (byte : ℕ) → Begins m h p → goes_to_head m byte ≡ true → p ≡ []
-no_payload (mode.Id id) h p byte b g = b.1
+no_payload (mode.Id id) h p byte b g = cc
 no_payload (mode.Tag id) h p byte b g = b.1
 no_payload mode.Colon h p byte b g = b.1
 no_payload (mode.Length id count value) h p byte b g = b.1
@@ -71,3 +72,7 @@ take_one (x ∷ xs) h = refl
 
 pub first_goes : (m : Mode) (h p piece : List ℕ) → Begins m h p → goes_to_head m (slice_index piece 0) ≡ true → 0 < length piece → (h ++ p) ++ take 1 piece ≡ h ++ slice_index piece 0 ∷ []
 first_goes m h p piece b g some = rw (no_payload m h p (slice_index piece 0) b g, take_one piece some, append-nil) refl
+
+-- a byte more behind what has come of an id
+pub id_byte : (h p now piece : List ℕ) (at : ℕ) → p ≡ [] → now ≡ h ++ take at piece → at < length piece → (h ++ p) ++ take (at + 1) piece ≡ now ++ slice_index piece at ∷ []
+id_byte h p now piece at none came within = rw (none, came, take_more piece at 0 within) (simp (append-nil, append_assoc))

@@ -76,8 +76,9 @@ abbrev pub is_plain : Tag → Bool
 is_plain Plain = true
 is_plain t = false
 
--- whether a byte belongs to what stands before a payload
+-- whether a byte belongs to what stands between an id and a payload
 abbrev pub goes_to_head : Mode → ℕ → Bool
+goes_to_head (Id id) byte = false
 goes_to_head (AtTag id) byte = not (is_plain (tag_of byte))
 goes_to_head (Text id left) byte = false
 goes_to_head (Line coming) byte = false

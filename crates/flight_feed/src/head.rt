@@ -3,7 +3,8 @@ ghost use Rattle.flight_row.specs.Rows.{is_hex, hex_value, tag_of, IsHead};
 ghost use Rattle.flight_row.specs.declared.tag.Tag.{Tag};
 ghost use Rattle.flight_feed.specs.Parts.{InId, InLength};
 ghost use Rattle.flight_feed.specs.Faults.{IsBad};
-ghost use Rattle.flight_feed.specs.Begun.{Begins, IsBegun, GoesOn, IsStopAt, bytes_of, goes_to_head};
+ghost use Rattle.flight_feed.specs.Begun.{Begins, IsBegun, IsUnfinished, GoesOn, IsStopAt, bytes_of, goes_to_head};
+ghost use Rattle.flight_feed.specs.declared.begun.Mode.TheVariants.{Id as AtId};
 
 use crate::arrived::Arrived;
 use crate::begun::{Begun, Coming, Mode, Stop, finish};
@@ -14,18 +15,35 @@ use std::alloc::Global;
 /// A payload has at most so many bytes.
 pub const LONGEST: usize = 67_108_864;
 
-/// Whether a byte belongs to what stands before a payload.
-pub fn is_for_head(mode: Mode, byte: u8) -> bool
-    ensures { result ≡ goes_to_head mode byte }
+/// Takes what a piece has of an id: digits, up to the colon behind them or the piece's end.
+pub fn id_bytes(begun: &mut Begun, id: u32, piece: &[u8]) -> Result<usize, Stop>
+    requires mode { begun.old.mode ≡ AtId id }
+    requires begins { IsBegun begun.old }
+    requires some { 0 < length piece.now }
+    ensures count { IfOk result (λ n. (0 < n) × (n ≤ length piece.now)) }
+    ensures begun { OnOk result (IsBegun begun.new) }
+    ensures bytes { IfOk result (λ n. bytes_of begun.new ≡ bytes_of begun.old ++ take n piece.now) }
+    ensures refused { IfErr result (IsStopAt (bytes_of begun.old) piece.now) }
+    ensures number { begun.new.number ≡ begun.old.number }
 {
-    match mode {
-        Mode::Id { .. } | Mode::Colon | Mode::Length { .. } => true,
-        Mode::Tag { .. } => read_tag(byte) != Tag::Plain,
-        Mode::Text { .. } | Mode::Line { .. } => false,
+    let mut id = id;
+    for (at, byte) in piece.iter().enumerate() {
+        let mode = match after_id(id, &begun.head, *byte) {
+            Ok(mode) => mode,
+            Err(kind) => return Err(Stop::Refused(kind)),
+        };
+        begun.head.push(*byte)?;
+        let Mode::Id { id: longer } = mode else {
+            begun.mode = mode;
+            return Ok(at + 1);
+        };
+        id = longer;
     }
+    begun.mode = Mode::Id { id };
+    Ok(piece.len())
 }
 
-/// Takes a byte before a payload.
+/// Takes a byte between an id and a payload.
 pub fn head_byte(
     alloc: Global,
     begun: &mut Begun,
@@ -58,7 +76,7 @@ pub fn head_byte(
     Ok(1)
 }
 
-/// Where a byte leads before a payload.
+/// Where a byte leads between an id and a payload.
 fn after_head(mode: Mode, head: &[u8], byte: u8) -> Result<Mode, FeedKind>
     requires begins { Begins mode head.now [] }
     requires head { goes_to_head mode byte ≡ true }
@@ -66,18 +84,19 @@ fn after_head(mode: Mode, head: &[u8], byte: u8) -> Result<Mode, FeedKind>
     ensures err { IfErr result (λ kind. IsBad kind (head.now ++ byte ∷ [])) }
 {
     match mode {
-        Mode::Id { id } => after_id(id, head, byte),
         Mode::Tag { id } => after_tag(id, head, byte),
         Mode::Colon => after_colon(head, byte),
         Mode::Length { id, digits, value } => after_length(id, digits, value, head, byte),
-        Mode::Text { .. } | Mode::Line { .. } => unreachable!(),
+        Mode::Id { .. } | Mode::Text { .. } | Mode::Line { .. } => unreachable!(),
     }
 }
 
 /// Where a byte leads among the digits of an id.
+#[inline(always)]
 fn after_id(id: u32, head: &[u8], byte: u8) -> Result<Mode, FeedKind>
     requires { InId head.now id }
     ensures ok { IfOk result (λ next. Begins next (head.now ++ byte ∷ []) []) }
+    ensures unfinished { IfOk result IsUnfinished }
     ensures err { IfErr result (λ kind. IsBad kind (head.now ++ byte ∷ [])) }
 {
     if byte == b':' {

@@ -4,9 +4,9 @@ ghost use Rattle.flight_feed.specs.Stream.{Advances};
 
 use crate::arrived::Arrived;
 use crate::begun::{Begun, Coming, Mode, Stop};
-use crate::head::{head_byte, is_for_head};
+use crate::head::{head_byte, id_bytes};
 use crate::payload::{line_bytes, text_bytes};
-use flight_row::RowKind;
+use flight_row::{RowKind, Tag, read_tag};
 use std::alloc::Global;
 
 /// Takes a piece, and hands out the rows that are whole now.
@@ -44,16 +44,14 @@ fn take_some(
     ensures kept { OnErr result (out.new.items ≡ out.old.items) }
     ensures number { OnErr result (begun.new.number ≡ begun.old.number) }
 {
-    if is_for_head(begun.mode, piece[0]) {
-        return head_byte(alloc, begun, out, piece);
-    }
     match begun.mode {
-        Mode::Tag { id } => {
+        Mode::Id { id } => id_bytes(begun, id, piece),
+        Mode::Tag { id } if read_tag(piece[0]) == Tag::Plain => {
             let kind = RowKind::Model;
             line_bytes(alloc, begun, Coming::Row { id, kind }, out, piece)
         }
+        Mode::Tag { .. } | Mode::Colon | Mode::Length { .. } => head_byte(alloc, begun, out, piece),
         Mode::Line { coming } => line_bytes(alloc, begun, coming, out, piece),
         Mode::Text { id, left } => text_bytes(alloc, begun, id, left, out, piece),
-        Mode::Id { .. } | Mode::Colon | Mode::Length { .. } => unreachable!(),
     }
 }
