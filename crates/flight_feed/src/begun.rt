@@ -111,7 +111,15 @@ pub fn is_fit(coming: Coming, payload: &[u8]) -> bool
 fn is_text(bytes: &[u8]) -> bool
     ensures { IsTrue result ↔ IsUtf8 bytes.now }
 {
-    greatest(bytes) < 128 || from_utf8(bytes).is_ok()
+    greatest(bytes) < 128 || is_utf8(bytes)
+}
+
+/// Whether bytes are UTF-8, read whole.
+#[inline(never)]
+fn is_utf8(bytes: &[u8]) -> bool
+    ensures { IsTrue result ↔ IsUtf8 bytes.now }
+{
+    from_utf8(bytes).is_ok()
 }
 
 /// The greatest of some bytes, or 0. So plain a loop is compiled to steps of many bytes.
@@ -126,6 +134,7 @@ fn greatest(bytes: &[u8]) -> u8
 }
 
 /// Ends a row, and hands it out unless it is a hint.
+#[inline(always)]
 pub fn finish(
     alloc: Global,
     begun: &mut Begun,
@@ -152,6 +161,7 @@ pub fn finish(
 }
 
 /// Hands a row out.
+#[inline(always)]
 fn hand_out(
     number: u64,
     coming: Coming,

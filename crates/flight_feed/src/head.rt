@@ -1,4 +1,4 @@
-ghost use Rattle.std.specs.Prelude.{◌≡◌, ◌≢◌, ◌+◌, ◌++◌, ◌∷◌, ◌<◌, ◌≤◌, [], true, length, slice_index, take, IfOk, IfErr, OnOk, OnErr};
+ghost use Rattle.std.specs.Prelude.{◌≡◌, ◌≢◌, ◌+◌, ◌++◌, ◌∷◌, ◌<◌, ◌≤◌, [], true, false, None, length, slice_index, take, IfSome, IfOk, IfErr, OnOk, OnErr};
 ghost use Rattle.flight_row.specs.Rows.{is_hex, hex_value, tag_of, IsHead};
 ghost use Rattle.flight_row.specs.declared.tag.Tag.{Tag};
 ghost use Rattle.flight_feed.specs.Parts.{InId, InLength};
@@ -106,11 +106,11 @@ fn after_id(id: u32, head: &[u8], byte: u8) -> Result<Mode, FeedKind>
             Mode::Tag { id }
         });
     }
-    if !is_digit(byte) || head.len() >= 8 {
+    let Some(digit) = digit_value(byte) else {
         return Err(FeedKind::BadId);
-    }
-    let id = 16 * u64::from(id) + u64::from(digit_value(byte));
-    if id >= 1 << 31 {
+    };
+    let id = 16 * u64::from(id) + u64::from(digit);
+    if head.len() >= 8 || id >= 1 << 31 {
         return Err(FeedKind::BadId);
     }
     Ok(Mode::Id { id: id as u32 })
@@ -173,31 +173,28 @@ fn after_length(id: u32, digits: u32, value: u64, head: &[u8], byte: u8) -> Resu
             left: value as usize,
         });
     }
-    if !is_digit(byte) || digits >= 8 {
+    let Some(digit) = digit_value(byte) else {
+        return Err(FeedKind::BadLength);
+    };
+    if digits >= 8 {
         return Err(FeedKind::BadLength);
     }
     Ok(Mode::Length {
         id,
         digits: digits + 1,
-        value: 16 * value + u64::from(digit_value(byte)),
+        value: 16 * value + u64::from(digit),
     })
 }
 
-/// Whether a byte is a lower-case hexadecimal digit.
-fn is_digit(byte: u8) -> bool
-    ensures { result ≡ is_hex byte }
+/// The value of a lower-case hexadecimal digit, where the byte is one.
+#[inline(always)]
+fn digit_value(byte: u8) -> Option<u8>
+    ensures some { IfSome result (λ value. (is_hex byte ≡ true) × (value ≡ hex_value byte)) }
+    ensures none { result ≡ None → is_hex byte ≡ false }
 {
-    matches!(byte, b'0'..=b'9' | b'a'..=b'f')
-}
-
-/// The value of a digit.
-fn digit_value(byte: u8) -> u8
-    requires { is_hex byte ≡ true }
-    ensures { result ≡ hex_value byte }
-{
-    if byte <= b'9' {
-        byte - b'0'
-    } else {
-        byte - b'a' + 10
+    match byte {
+        b'0'..=b'9' => Some(byte - b'0'),
+        b'a'..=b'f' => Some(byte - b'a' + 10),
+        _ => None,
     }
 }

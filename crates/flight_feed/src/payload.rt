@@ -12,6 +12,7 @@ use memchr::memchr;
 use std::alloc::Global;
 
 /// Takes bytes of a payload that a newline ends, up to that newline or the piece's end.
+#[inline(always)]
 pub fn line_bytes(
     alloc: Global,
     begun: &mut Begun,

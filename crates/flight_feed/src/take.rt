@@ -44,14 +44,17 @@ fn take_some(
     ensures kept { OnErr result (out.new.items ≡ out.old.items) }
     ensures number { OnErr result (begun.new.number ≡ begun.old.number) }
 {
-    match begun.mode {
-        Mode::Id { id } => id_bytes(begun, id, piece),
+    let coming = match begun.mode {
+        Mode::Id { id } => return id_bytes(begun, id, piece),
         Mode::Tag { id } if read_tag(piece[0]) == Tag::Plain => {
             let kind = RowKind::Model;
-            line_bytes(alloc, begun, Coming::Row { id, kind }, out, piece)
+            Coming::Row { id, kind }
         }
-        Mode::Tag { .. } | Mode::Colon | Mode::Length { .. } => head_byte(alloc, begun, out, piece),
-        Mode::Line { coming } => line_bytes(alloc, begun, coming, out, piece),
-        Mode::Text { id, left } => text_bytes(alloc, begun, id, left, out, piece),
-    }
+        Mode::Tag { .. } | Mode::Colon | Mode::Length { .. } => {
+            return head_byte(alloc, begun, out, piece);
+        }
+        Mode::Text { id, left } => return text_bytes(alloc, begun, id, left, out, piece),
+        Mode::Line { coming } => coming,
+    };
+    line_bytes(alloc, begun, coming, out, piece)
 }
