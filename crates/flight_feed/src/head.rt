@@ -99,15 +99,15 @@ fn after_id(id: u32, head: &[u8], byte: u8) -> Result<Mode, FeedKind>
     ensures unfinished { IfOk result IsUnfinished }
     ensures err { IfErr result (λ kind. IsBad kind (head.now ++ byte ∷ [])) }
 {
-    if byte == b':' {
+    let Some(digit) = digit_value(byte) else {
+        if byte != b':' {
+            return Err(FeedKind::BadId);
+        }
         return Ok(if head.is_empty() {
             Mode::Colon
         } else {
             Mode::Tag { id }
         });
-    }
-    let Some(digit) = digit_value(byte) else {
-        return Err(FeedKind::BadId);
     };
     let id = 16 * u64::from(id) + u64::from(digit);
     if head.len() >= 8 || id >= 1 << 31 {

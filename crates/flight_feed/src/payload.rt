@@ -9,7 +9,7 @@ use crate::fault::FeedKind;
 use crate::head::LONGEST;
 use flight_row::RowKind;
 use memchr::memchr;
-use std::alloc::Global;
+use std::alloc::{AllocError, Global};
 
 /// Takes bytes of a payload that a newline ends, up to that newline or the piece's end.
 #[inline(always)]
@@ -35,7 +35,7 @@ pub fn line_bytes(
     if len > LONGEST - begun.payload.len() {
         return Err(Stop::Refused(FeedKind::RowTooLong));
     }
-    begun.payload.extend_from_slice(&piece[..len])?;
+    append(alloc, &mut begun.payload, &piece[..len])?;
     if len == piece.len() {
         begun.mode = Mode::Line { coming };
         return Ok(len);
@@ -64,7 +64,7 @@ pub fn text_bytes(
     ensures number { OnErr result (begun.new.number ≡ begun.old.number) }
 {
     let len = left.min(piece.len());
-    begun.payload.extend_from_slice(&piece[..len])?;
+    append(alloc, &mut begun.payload, &piece[..len])?;
     if len < left {
         begun.mode = Mode::Text {
             id,
@@ -75,6 +75,17 @@ pub fn text_bytes(
     let kind = RowKind::Text;
     finish(alloc, begun, Coming::Row { id, kind }, out)?;
     Ok(len)
+}
+
+/// Appends bytes to a payload. Most payloads come in one piece, so the first bytes take no more room than they need.
+#[inline(always)]
+fn append(alloc: Global, payload: &mut Vec<u8>, bytes: &[u8]) -> Result<(), AllocError>
+    ensures { OnOk result (payload.new.items ≡ payload.old.items ++ bytes.now) }
+{
+    if payload.is_empty() {
+        *payload = Vec::with_capacity(alloc, bytes.len())?;
+    }
+    payload.extend_from_slice(bytes)
 }
 
 /// How many bytes stand before the first newline, or before the end.

@@ -15,8 +15,8 @@ returns-in_err-finish-clause-refused c =
     let b = c.args.begun.now in
     let piece : List ℕ = c.args.piece.now in
     let n : ℕ = c.before_newline-len.result in
-    let more : List ℕ = c.extend_from_slice.new.self.items in
-    let items : more ≡ b.payload.items ++ take n piece = c.in_ok-extend_from_slice.ensures.items in
+    let more : List ℕ = c.append.new.payload.items in
+    let items : more ≡ b.payload.items ++ take n piece = c.in_ok-append.ensures in
     let line = c.before_newline-len.ensures in
     let form : HasForm c.args.coming (bytes_of b ++ take (n + 1) piece) more =
     rw items (whole_line c.args.coming b.head.items b.payload.items piece n c.requires.head c.requires.line c.requires.model line.line (omega arith) (omega arith) (line.end (omega arith))) in
@@ -28,8 +28,8 @@ returns-clause-ok c =
     let b = c.args.begun.now in
     let piece : List ℕ = c.args.piece.now in
     let n : ℕ = c.before_newline-len.result in
-    let more : List ℕ = c.extend_from_slice.new.self.items in
-    let items : more ≡ b.payload.items ++ take n piece = c.in_ok-extend_from_slice.ensures.items in
+    let more : List ℕ = c.append.new.payload.items in
+    let items : more ≡ b.payload.items ++ take n piece = c.in_ok-append.ensures in
     let line = c.before_newline-len.ensures in
     let form : HasForm c.args.coming (bytes_of b ++ take (n + 1) piece) more =
     rw items (whole_line c.args.coming b.head.items b.payload.items piece n c.requires.head c.requires.line c.requires.model line.line (omega arith) (omega arith) (line.end (omega arith))) in
