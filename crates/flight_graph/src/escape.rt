@@ -6,10 +6,25 @@ ghost use Rattle.flight_graph.specs.Writing.{is_escaped};
 use crate::writer::Writer;
 use flight_value::Memory;
 
+/// How long a text is that is looked at as a whole.
+const SHORT: usize = 16;
+
 /// Appends a text as a JSON string: in quotation marks, with a backslash before `"` and `\`, with `\b`, `\f`,
 /// `\n`, `\r` and `\t`, and with other bytes below 32 as `\u00` and two lower-case hexadecimal digits. All else
 /// stands as it is. Where memory is wanting, a part may be appended.
 pub fn write_string(out: &mut Writer, text: &str) -> Result<(), Memory>
+    ensures { OnOk result (out.new ≡ out.old ++ string_text text.now) }
+{
+    if has_escaped(text.as_bytes()) {
+        return write_in_runs(out, text);
+    }
+    out.push_quoted(text)
+}
+
+/// Appends a text as a JSON string, the runs of what stands as it is one at a time.
+#[cold]
+#[inline(never)]
+fn write_in_runs(out: &mut Writer, text: &str) -> Result<(), Memory>
     ensures { OnOk result (out.new ≡ out.old ++ string_text text.now) }
 {
     put(out, b'"')?;
@@ -32,6 +47,31 @@ pub fn put(out: &mut Writer, character: u8) -> Result<(), Memory>
     out.push(character)
 }
 
+/// Whether a byte may not stand as it is.
+#[inline]
+fn has_escaped(bytes: &[u8]) -> bool
+    ensures { result ≡ false → All (λ b. is_escaped b ≡ false) bytes.now }
+{
+    if bytes.len() > SHORT {
+        return any_escaped(bytes);
+    }
+    let mut window = [b' '; SHORT];
+    window[..bytes.len()].copy_from_slice(bytes);
+    any_escaped(window.as_slice())
+}
+
+/// Whether a byte may not stand as it is. Each byte is looked at, which goes many at a time.
+#[inline(always)]
+fn any_escaped(bytes: &[u8]) -> bool
+    ensures { result ≡ false → All (λ b. is_escaped b ≡ false) bytes.now }
+{
+    let mut found = false;
+    for byte in bytes {
+        found |= is_escaped(*byte);
+    }
+    found
+}
+
 /// Where the first byte stands that may not stand as it is.
 fn first_escaped(bytes: &[u8]) -> Option<usize>
     ensures { MatchOption result (All (λ b. is_escaped b ≡ false) bytes.now) (λ at. (at < length bytes.now) × (is_escaped (slice_index bytes.now at) ≡ true) × All (λ b. is_escaped b ≡ false) (take at bytes.now)) }
@@ -39,6 +79,7 @@ fn first_escaped(bytes: &[u8]) -> Option<usize>
     bytes.iter().position(|byte| is_escaped(*byte))
 }
 
+#[inline]
 fn is_escaped(byte: u8) -> bool
     ensures { result ≡ is_escaped byte }
 {

@@ -66,10 +66,7 @@ impl Writer {
         if self.gathered.try_extend_from_slice(piece).is_ok() {
             return Ok(());
         }
-        self.text.extend_from_slice(self.gathered.as_slice())?;
-        self.gathered = ArrayVec::new();
-        self.text.extend_from_slice(piece)?;
-        Ok(())
+        self.push_past(piece)
     }
 
     /// Appends a character of ASCII.
@@ -79,10 +76,48 @@ impl Writer {
         ensures { OnOk result (self.new ≡ self.old ++ character ∷ []) }
     {
         if self.gathered.is_full() {
-            self.text.extend_from_slice(self.gathered.as_slice())?;
-            self.gathered = ArrayVec::new();
+            return self.push_past([character].as_slice());
         }
         self.gathered.push(character);
+        Ok(())
+    }
+
+    /// Appends a text in quotation marks. Nothing in it is escaped.
+    #[inline]
+    pub fn push_quoted(&mut self, text: &str) -> Result<(), Memory>
+        ensures { OnOk result (self.new ≡ self.old ++ 34 ∷ (text.now ++ 34 ∷ [])) }
+    {
+        let room = self.gathered.remaining_capacity();
+        if room < 2 || room - 2 < text.len() {
+            return self.push_quoted_past(text);
+        }
+        self.gathered.push(b'"');
+        let _fits = self.gathered.try_extend_from_slice(text.as_bytes());
+        self.gathered.push(b'"');
+        Ok(())
+    }
+
+    /// Appends bytes for which no room is left.
+    #[cold]
+    #[inline(never)]
+    fn push_past(&mut self, piece: &[u8]) -> Result<(), Memory>
+        ensures { OnOk result (self.new ≡ self.old ++ piece.now) }
+    {
+        self.text.extend_from_slice(self.gathered.as_slice())?;
+        self.gathered = ArrayVec::new();
+        self.text.extend_from_slice(piece)?;
+        Ok(())
+    }
+
+    /// Appends a text in quotation marks for which no room is left.
+    #[cold]
+    #[inline(never)]
+    fn push_quoted_past(&mut self, text: &str) -> Result<(), Memory>
+        ensures { OnOk result (self.new ≡ self.old ++ 34 ∷ (text.now ++ 34 ∷ [])) }
+    {
+        self.push(b'"')?;
+        self.push_str(text)?;
+        self.push(b'"')?;
         Ok(())
     }
 
