@@ -1,13 +1,11 @@
-ghost use Rattle.std.specs.Prelude.{◌≡◌, [], ◌∷◌, ◌++◌, ◌/◌, ◌%◌, ◌<◌, codes, OnOk, MatchOption, All, length, take, slice_index, true, false};
+ghost use Rattle.std.specs.Prelude.{◌≡◌, [], ◌∷◌, ◌++◌, ◌/◌, ◌%◌, ◌<◌, ◌≤◌, codes, OnOk, MatchOption, All, length, take, slice_index, true, false};
 ghost use Rattle.std.specs.Char.{digit_char};
 ghost use Rattle.flight_graph.specs.Text.{escaped, string_text};
 ghost use Rattle.flight_graph.specs.Writing.{is_escaped};
 
+use crate::gathered::WINDOW;
 use crate::writer::Writer;
 use flight_value::Memory;
-
-/// How long a text is that is looked at as a whole.
-const SHORT: usize = 16;
 
 /// Appends a text as a JSON string: in quotation marks, with a backslash before `"` and `\`, with `\b`, `\f`,
 /// `\n`, `\r` and `\t`, and with other bytes below 32 as `\u00` and two lower-case hexadecimal digits. All else
@@ -15,10 +13,37 @@ const SHORT: usize = 16;
 pub fn write_string(out: &mut Writer, text: &str) -> Result<(), Memory>
     ensures { OnOk result (out.new ≡ out.old ++ string_text text.now) }
 {
-    if has_escaped(text.as_bytes()) {
+    if text.len() <= WINDOW {
+        return write_short(out, text);
+    }
+    if any_escaped(text.as_bytes()) {
         return write_in_runs(out, text);
     }
     out.push_quoted(text)
+}
+
+/// Appends a text that a window holds.
+#[inline(always)]
+fn write_short(out: &mut Writer, text: &str) -> Result<(), Memory>
+    requires { length text.now ≤ 16 }
+    ensures { OnOk result (out.new ≡ out.old ++ string_text text.now) }
+{
+    let window = window_of(text.as_bytes());
+    if any_escaped(window.as_slice()) {
+        return write_in_runs(out, text);
+    }
+    out.push_window_quoted(&window, text.len())
+}
+
+/// Bytes that a window holds, and spaces behind them.
+#[inline(always)]
+fn window_of(piece: &[u8]) -> [u8; WINDOW]
+    requires { length piece.now ≤ 16 }
+    ensures { take (length piece.now) result ≡ piece.now }
+{
+    let mut window = [b' '; WINDOW];
+    window[..piece.len()].copy_from_slice(piece);
+    window
 }
 
 /// Appends a text as a JSON string, the runs of what stands as it is one at a time.
@@ -45,19 +70,6 @@ pub fn put(out: &mut Writer, character: u8) -> Result<(), Memory>
     ensures { OnOk result (out.new ≡ out.old ++ character ∷ []) }
 {
     out.push(character)
-}
-
-/// Whether a byte may not stand as it is.
-#[inline]
-fn has_escaped(bytes: &[u8]) -> bool
-    ensures { result ≡ false → All (λ b. is_escaped b ≡ false) bytes.now }
-{
-    if bytes.len() > SHORT {
-        return any_escaped(bytes);
-    }
-    let mut window = [b' '; SHORT];
-    window[..bytes.len()].copy_from_slice(bytes);
-    any_escaped(window.as_slice())
 }
 
 /// Whether a byte may not stand as it is. Each byte is looked at, which goes many at a time.
