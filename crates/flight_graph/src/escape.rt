@@ -28,26 +28,24 @@ fn write_short(out: &mut Writer, text: &str) -> Result<(), Memory>
     requires { length text.now ≤ 16 }
     ensures { OnOk result (out.new ≡ out.old ++ string_text text.now) }
 {
-    let window = window_of(text.as_bytes());
+    let mut window = [b' '; WINDOW];
+    fill_front(&mut window, text.as_bytes());
     if any_escaped(window.as_slice()) {
         return write_in_runs(out, text);
     }
     out.push_window_quoted(&window, text.len())
 }
 
-/// Bytes that a window holds, and spaces behind them.
+/// Puts bytes at the front of a window.
 #[inline(always)]
-fn window_of(piece: &[u8]) -> [u8; WINDOW]
+fn fill_front(window: &mut [u8; WINDOW], piece: &[u8])
     requires { length piece.now ≤ 16 }
-    ensures { take (length piece.now) result ≡ piece.now }
+    ensures { take (length piece.now) window.new ≡ piece.now }
 {
-    let mut window = [b' '; WINDOW];
     window[..piece.len()].copy_from_slice(piece);
-    window
 }
 
 /// Appends a text as a JSON string, the runs of what stands as it is one at a time.
-#[cold]
 #[inline(never)]
 fn write_in_runs(out: &mut Writer, text: &str) -> Result<(), Memory>
     ensures { OnOk result (out.new ≡ out.old ++ string_text text.now) }
