@@ -8,7 +8,7 @@ use Rattle.std.proofs.lemmas.List.Elements.{recursion_from_All}
 use Rattle.flight_graph.specs.Text.{escaped}
 use Rattle.flight_graph.specs.Writing.{is_escaped}
 
-or_false : (a b : Bool) → (a || b) ≡ false → (a ≡ false) × (b ≡ false)
+pub or_false : (a b : Bool) → (a || b) ≡ false → (a ≡ false) × (b ≡ false)
 or_false true b h = absurd (let k : true ≡ false = h in cc)
 or_false false b h = (refl, h)
 

@@ -1,3 +1,4 @@
+pub mod Digits
 pub mod Drawn
 pub mod Escapes
 pub mod Ordered

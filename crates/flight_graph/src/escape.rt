@@ -1,8 +1,9 @@
-ghost use Rattle.std.specs.Prelude.{◌≡◌, [], ◌∷◌, ◌++◌, ◌/◌, ◌%◌, ◌<◌, codes, OnOk, MatchOption, All, length, take, slice_index, true, false};
+ghost use Rattle.std.specs.Prelude.{◌≡◌, [], ◌∷◌, ◌++◌, ◌/◌, ◌%◌, ◌<◌, ◌≤◌, codes, OnOk, MatchOption, All, length, take, slice_index, true, false};
 ghost use Rattle.std.specs.Char.{digit_char};
 ghost use Rattle.flight_graph.specs.Text.{escaped, string_text};
 ghost use Rattle.flight_graph.specs.Writing.{is_escaped};
 
+use crate::gathered::WINDOW;
 use crate::writer::Writer;
 use flight_value::Memory;
 
@@ -10,6 +11,43 @@ use flight_value::Memory;
 /// `\n`, `\r` and `\t`, and with other bytes below 32 as `\u00` and two lower-case hexadecimal digits. All else
 /// stands as it is. Where memory is wanting, a part may be appended.
 pub fn write_string(out: &mut Writer, text: &str) -> Result<(), Memory>
+    ensures { OnOk result (out.new ≡ out.old ++ string_text text.now) }
+{
+    if text.len() <= WINDOW {
+        return write_short(out, text);
+    }
+    if any_escaped(text.as_bytes()) {
+        return write_in_runs(out, text);
+    }
+    out.push_quoted(text)
+}
+
+/// Appends a text that a window holds.
+#[inline(always)]
+fn write_short(out: &mut Writer, text: &str) -> Result<(), Memory>
+    requires { length text.now ≤ 16 }
+    ensures { OnOk result (out.new ≡ out.old ++ string_text text.now) }
+{
+    let mut window = [b' '; WINDOW];
+    fill_front(&mut window, text.as_bytes());
+    if any_escaped(window.as_slice()) {
+        return write_in_runs(out, text);
+    }
+    out.push_window_quoted(&window, text.len())
+}
+
+/// Puts bytes at the front of a window.
+#[inline(always)]
+fn fill_front(window: &mut [u8; WINDOW], piece: &[u8])
+    requires { length piece.now ≤ 16 }
+    ensures { take (length piece.now) window.new ≡ piece.now }
+{
+    window[..piece.len()].copy_from_slice(piece);
+}
+
+/// Appends a text as a JSON string, the runs of what stands as it is one at a time.
+#[inline(never)]
+fn write_in_runs(out: &mut Writer, text: &str) -> Result<(), Memory>
     ensures { OnOk result (out.new ≡ out.old ++ string_text text.now) }
 {
     put(out, b'"')?;
@@ -32,6 +70,18 @@ pub fn put(out: &mut Writer, character: u8) -> Result<(), Memory>
     out.push(character)
 }
 
+/// Whether a byte may not stand as it is. Each byte is looked at, which goes many at a time.
+#[inline(always)]
+fn any_escaped(bytes: &[u8]) -> bool
+    ensures { result ≡ false → All (λ b. is_escaped b ≡ false) bytes.now }
+{
+    let mut found = false;
+    for byte in bytes {
+        found |= is_escaped(*byte);
+    }
+    found
+}
+
 /// Where the first byte stands that may not stand as it is.
 fn first_escaped(bytes: &[u8]) -> Option<usize>
     ensures { MatchOption result (All (λ b. is_escaped b ≡ false) bytes.now) (λ at. (at < length bytes.now) × (is_escaped (slice_index bytes.now at) ≡ true) × All (λ b. is_escaped b ≡ false) (take at bytes.now)) }
@@ -39,6 +89,7 @@ fn first_escaped(bytes: &[u8]) -> Option<usize>
     bytes.iter().position(|byte| is_escaped(*byte))
 }
 
+#[inline]
 fn is_escaped(byte: u8) -> bool
     ensures { result ≡ is_escaped byte }
 {

@@ -23,6 +23,7 @@
 
 mod equal;
 mod escape;
+mod gathered;
 mod label;
 mod law;
 mod print;

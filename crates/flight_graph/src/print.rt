@@ -11,8 +11,11 @@ use crate::rename::{node_in, place_of};
 use crate::walk::visit_all;
 use crate::writer::Writer;
 use flight_value::{Atom, Constant, End, Flow, Graph, Memory, Node, Pair, Prop, Slot, Text};
-use itoa::{Buffer, Integer};
+use itoa::{Buffer, Integer, write_digits};
 use std::alloc::Global;
+
+/// How long the text of a node's number is at most.
+const NUMBER_LEN: usize = 21;
 
 /// The text of a graph's canon: a line `root` with the root's slot, and then a line for each node in the
 /// order of a first visit. Each line ends with a newline. The canon itself is not built.
@@ -227,8 +230,9 @@ fn write_slot(out: &mut Writer, places: &[Option<u32>], slot: &Slot) -> Result<(
 pub fn write_number(out: &mut Writer, number: usize) -> Result<(), Memory>
     ensures { OnOk result (out.new ≡ out.old ++ number_text number) }
 {
-    put(out, b'#')?;
-    write_integer(out, number)
+    let mut text = [b'#'; NUMBER_LEN];
+    let start = write_digits(number as u64, &mut text, NUMBER_LEN);
+    out.push_bytes(&text[start - 1..])
 }
 
 /// Appends an atom, as it stands in a slot.

@@ -1,12 +1,9 @@
-ghost use Rattle.std.specs.Prelude.{◌≡◌, ◌++◌, ◌∷◌, ◌<◌, [], OnOk, IfOk, length};
+ghost use Rattle.std.specs.Prelude.{◌≡◌, ◌++◌, ◌∷◌, ◌<◌, [], OnOk, IfOk, length, take, ◌≤◌};
 
-use arrayvec::ArrayVec;
+use crate::gathered::{Gathered, WINDOW};
 use flight_value::{Memory, Text};
 use std::alloc::Global;
 use std::marker::Model;
-
-/// How many bytes are gathered.
-const ROOM: usize = 1024;
 
 /// A text on its way, which contracts see as its bytes. Most pieces are of a few bytes: they are gathered, and go to the
 /// text many at once.
@@ -14,7 +11,7 @@ const ROOM: usize = 1024;
 pub struct Writer {
     text: Vec<u8>,
     /// What stands behind the text.
-    gathered: ArrayVec<u8, ROOM>,
+    gathered: Gathered,
 }
 
 impl Model for Writer {
@@ -25,7 +22,7 @@ impl Model for Writer {
 
     ghost coded = { coded_list coded_ℕ };
 
-    ghost view = { λ w. w.text.items ++ w.gathered.items };
+    ghost view = { λ w. w.text.items ++ w.gathered };
 }
 
 impl Writer {
@@ -35,7 +32,7 @@ impl Writer {
     {
         Writer {
             text: Vec::new(alloc),
-            gathered: ArrayVec::new(),
+            gathered: Gathered::new(),
         }
     }
 
@@ -63,12 +60,10 @@ impl Writer {
     pub fn push_bytes(&mut self, piece: &[u8]) -> Result<(), Memory>
         ensures { OnOk result (self.new ≡ self.old ++ piece.now) }
     {
-        if self.gathered.try_extend_from_slice(piece).is_ok() {
-            return Ok(());
+        if self.gathered.room() < piece.len() {
+            return self.push_past(piece);
         }
-        self.text.extend_from_slice(self.gathered.as_slice())?;
-        self.gathered = ArrayVec::new();
-        self.text.extend_from_slice(piece)?;
+        self.gathered.extend(piece);
         Ok(())
     }
 
@@ -78,11 +73,68 @@ impl Writer {
         requires { character < 128 }
         ensures { OnOk result (self.new ≡ self.old ++ character ∷ []) }
     {
-        if self.gathered.is_full() {
-            self.text.extend_from_slice(self.gathered.as_slice())?;
-            self.gathered = ArrayVec::new();
+        if self.gathered.room() == 0 {
+            return self.push_past([character].as_slice());
         }
         self.gathered.push(character);
+        Ok(())
+    }
+
+    /// Appends a text in quotation marks. Nothing in it is escaped.
+    #[inline]
+    pub fn push_quoted(&mut self, text: &str) -> Result<(), Memory>
+        ensures { OnOk result (self.new ≡ self.old ++ 34 ∷ (text.now ++ 34 ∷ [])) }
+    {
+        let room = self.gathered.room();
+        if room < 2 || room - 2 < text.len() {
+            return self.push_quoted_past(text.as_bytes());
+        }
+        self.gathered.push(b'"');
+        self.gathered.extend(text.as_bytes());
+        self.gathered.push(b'"');
+        Ok(())
+    }
+
+    /// Appends the first bytes of a window in quotation marks.
+    #[inline]
+    pub(crate) fn push_window_quoted(
+        &mut self,
+        window: &[u8; WINDOW],
+        count: usize,
+    ) -> Result<(), Memory>
+        requires { count ≤ 16 }
+        ensures { OnOk result (self.new ≡ self.old ++ 34 ∷ (take count window.now ++ 34 ∷ [])) }
+    {
+        if self.gathered.room() < WINDOW + 2 {
+            return self.push_quoted_past(&window[..count]);
+        }
+        self.gathered.push(b'"');
+        self.gathered.extend_by_window(window, count);
+        self.gathered.push(b'"');
+        Ok(())
+    }
+
+    /// Appends bytes for which no room is left.
+    #[cold]
+    #[inline(never)]
+    fn push_past(&mut self, piece: &[u8]) -> Result<(), Memory>
+        ensures { OnOk result (self.new ≡ self.old ++ piece.now) }
+    {
+        self.text.extend_from_slice(self.gathered.as_slice())?;
+        self.gathered.clear();
+        self.text.extend_from_slice(piece)?;
+        Ok(())
+    }
+
+    /// Appends bytes in quotation marks for which no room is left.
+    #[cold]
+    #[inline(never)]
+    fn push_quoted_past(&mut self, piece: &[u8]) -> Result<(), Memory>
+        ensures { OnOk result (self.new ≡ self.old ++ 34 ∷ (piece.now ++ 34 ∷ [])) }
+    {
+        self.push(b'"')?;
+        self.push_bytes(piece)?;
+        self.push(b'"')?;
         Ok(())
     }
 

@@ -3,7 +3,7 @@ use Rattle.std.specs.List.{flat_map}
 use denote.Text.{Utf8}
 use denote.Shadow.{shadow}
 use Rattle.flight_graph.specs.Text.{escaped}
-use Rattle.flight_graph.proofs.escape.write_string.Given as goal
+use Rattle.flight_graph.proofs.escape.write_in_runs.Given as goal
 
 abbrev pub invariant-loop-at : goal.invariant-loop-at
 invariant-loop-at l = record {
