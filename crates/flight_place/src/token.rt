@@ -1,4 +1,7 @@
-ghost use Rattle.std.specs.Prelude.{◌≡◌, ◌↔◌, [], ◌∷◌, true, IsTrue, IfOk, IfErr};
+ghost use Rattle.std.specs.Prelude.{◌≡◌, ◌↔◌, ◌<◌, [], ◌∷◌, true, false, IsTrue, IfOk, IfErr, IfSome};
+ghost use Rattle.std.specs.Char.{digit_value as digit_of};
+ghost use Rattle.flight_text.specs.declared.mark.Mark.TheVariants as mark;
+ghost use Rattle.flight_text.specs.Hex.{IsId, is_hex_digit};
 ghost use Rattle.flight_text.specs.Mark.{IsSpelling};
 ghost use Rattle.flight_place.specs.Tokens.{is_dollar, is_plain, is_text, is_barred, is_of_wire, place_of};
 ghost use Rattle.flight_place.specs.Places.{HasPlace, Visit, token};
@@ -29,7 +32,8 @@ pub fn token_place(alloc: Global, manner: Manner, at: u32, text: &str) -> Result
 /// written so.
 #[inline]
 pub fn plain_reference(text: &str) -> Option<u32>
-    ensures { IfSome result (λ id. IsSpelling text.now (mark.Value (record { id = id; path = [] }))) }
+    ensures spells { IfSome result (λ id. IsSpelling text.now (mark.Value (record { id = id; path = [] }))) }
+    ensures allowed { IfSome result (λ id. (manner : Manner) → is_barred manner text.now ≡ false) }
 {
     match text.as_bytes() {
         [b'$', digits @ ..] => short_id(digits),
