@@ -1,5 +1,5 @@
 -- References without a path.
-use Rattle.std.proofs.Common.{◌≡◌, ◌<◌, ◌≤◌, ◌==◌, ◌&&◌, ◌||◌, ◌++◌, ◌∙◌, ◌+◌, ◌*◌, ◌^◌, ℕ, Bool, true, false, List, [], ◌∷◌, length, take, get_or, refl, sym, subst, arith, append-nil, nat_eq}
+use Rattle.std.proofs.Common.{◌≡◌, ◌<◌, ◌≤◌, ◌==◌, ◌&&◌, ◌||◌, ◌++◌, ◌∙◌, ◌+◌, ◌*◌, ◌^◌, ℕ, Bool, true, false, List, [], ◌∷◌, length, take, get_or, refl, sym, ap, subst, arith, append-nil, nat_eq}
 use Rattle.std.specs.Char.{digit_value}
 use Rattle.std.specs.List.{list_all, starts_with}
 use Rattle.std.specs.Str.Parse.{digits_value}
@@ -12,9 +12,13 @@ use Rattle.flight_text.specs.Hex.{is_hex_digit, IsId}
 use Rattle.flight_text.specs.Mark.{IsSpelling}
 use Rattle.flight_text.specs.declared.mark.Mark.TheVariants as mark
 use Rattle.flight_text.proofs.Digits.{both_true, all_hex_are_digits}
+use Rattle.flight_place.specs.declared.place.Place.{Place}
+use Rattle.flight_place.specs.declared.place.Place.TheVariants as place
 use Rattle.flight_place.specs.declared.place.Manner.{Manner}
 use Rattle.flight_place.specs.declared.place.Manner.TheVariants.{Wire, Reply}
-use Rattle.flight_place.specs.Tokens.{is_dollar, is_of_wire, is_barred}
+use Rattle.flight_place.specs.Tokens.{is_of_wire, is_barred}
+use Rattle.flight_place.specs.Places.{token}
+use Rattle.flight_place.specs.Faults.{Adds}
 
 -- ---- digits
 
@@ -70,3 +74,10 @@ pub not-barred : (digits : List ℕ) (id : ℕ) → IsId digits id → (manner :
 not-barred [] id is manner = absurd (omega (arith, is.hex.some))
 not-barred (byte ∷ digits) id is Wire = refl
 not-barred (byte ∷ digits) id is Reply = not-of_wire byte digits (both_true (is_hex_digit byte) (list_all is_hex_digit digits) is.hex.lower).0
+
+pub reference-adds : (manner : Manner) (old new : List Place) (text : List ℕ) (id : ℕ) (path : List (List ℕ)) → IsSpelling text (mark.Value (record { id = id; path = [] })) → is_barred manner text ≡ false → path ≡ [] → new ≡ old ++ place.Value (record { id = id; path = path }) ∷ [] → Adds manner old new (token (length old) text ∷ [])
+reference-adds manner old new text id path spells allowed none added = record {
+  more = place.Value (record { id = id; path = path }) ∷ [];
+  added = added;
+  have = (record { allowed = allowed; spelled = mark.Value (record { id = id; path = [] }); spells = spells; is_place = ap (λ p. place.Value (record { id = id; path = p })) none }, tt);
+}
