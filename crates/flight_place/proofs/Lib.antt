@@ -1,5 +1,6 @@
 pub mod Adding
 pub mod Plain
+pub mod References
 pub mod Walks
 pub mod Trees
 pub mod Within

@@ -156,6 +156,18 @@ fn refuses_rows(rt: HostRuntime) {
             Manner::Reply,
             PlaceKind::BadToken { at: 0 },
         ),
+        (
+            RowKind::Model,
+            r#"["$1f","$1F"]"#,
+            Manner::Wire,
+            PlaceKind::BadToken { at: 2 },
+        ),
+        (
+            RowKind::Model,
+            r#"["$7fffffff","$80000000"]"#,
+            Manner::Reply,
+            PlaceKind::BadToken { at: 2 },
+        ),
         (RowKind::Import, "[1.5]", Manner::Wire, PlaceKind::Number),
         (
             RowKind::Error,
@@ -193,6 +205,30 @@ fn numbers_an_element(rt: HostRuntime) -> Result<(), Fail> {
         Err(_) => assert!(rt; false, "{payload}"),
     }
     Ok(())
+}
+
+/// Whether the root is a reference without a path to this id.
+fn is_reference(places: &[Place], id: u32) -> bool {
+    match places.first() {
+        Some(Place::Value(place)) => place.id == id && place.path.as_slice().is_empty(),
+        _ => false,
+    }
+}
+
+#[test]
+fn reads_references(rt: HostRuntime) {
+    for (payload, manner, id) in [
+        (r#""$0""#, Manner::Wire, 0),
+        (r#""$1f""#, Manner::Reply, 0x1f),
+        (r#""$fedcba9""#, Manner::Wire, 0xfedcba9),
+        (r#""$0000001""#, Manner::Reply, 1),
+        (r#""$00000001""#, Manner::Wire, 1),
+        (r#""$7fffffff""#, Manner::Reply, 0x7fffffff),
+    ] {
+        let told = tree(&rt, RowKind::Model, payload, manner);
+        let found = matches!(&told, Ok(tree) if is_reference(tree.places.as_slice(), id));
+        assert!(rt; found, "{payload}");
+    }
 }
 
 /// The places of a model row, read in memory that is kept.

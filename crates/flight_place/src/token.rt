@@ -1,4 +1,7 @@
-ghost use Rattle.std.specs.Prelude.{◌≡◌, ◌↔◌, [], ◌∷◌, true, IsTrue, IfOk, IfErr};
+ghost use Rattle.std.specs.Prelude.{◌≡◌, ◌↔◌, ◌<◌, [], ◌∷◌, true, false, IsTrue, IfOk, IfErr, IfSome};
+ghost use Rattle.std.specs.Char.{digit_value as digit_of};
+ghost use Rattle.flight_text.specs.declared.mark.Mark.TheVariants as mark;
+ghost use Rattle.flight_text.specs.Hex.{IsId, is_hex_digit};
 ghost use Rattle.flight_text.specs.Mark.{IsSpelling};
 ghost use Rattle.flight_place.specs.Tokens.{is_dollar, is_plain, is_text, is_barred, is_of_wire, place_of};
 ghost use Rattle.flight_place.specs.Places.{HasPlace, Visit, token};
@@ -22,6 +25,44 @@ pub fn token_place(alloc: Global, manner: Manner, at: u32, text: &str) -> Result
         Ok(mark) => Ok(mark_place(alloc, mark)?),
         Err(Marked::BadToken) => Err(PlaceFault::Fault(PlaceKind::BadToken { at })),
         Err(Marked::Memory) => Err(PlaceFault::Memory),
+    }
+}
+
+/// The id of a value reference without a path, if a string is one and has seven digits at most. Most references are
+/// written so.
+#[inline]
+pub fn plain_reference(text: &str) -> Option<u32>
+    ensures spells { IfSome result (λ id. IsSpelling text.now (mark.Value (record { id = id; path = [] }))) }
+    ensures allowed { IfSome result (λ id. (manner : Manner) → is_barred manner text.now ≡ false) }
+{
+    match text.as_bytes() {
+        [b'$', digits @ ..] => short_id(digits),
+        _ => None,
+    }
+}
+
+/// The id that one to seven hexadecimal digits spell.
+fn short_id(digits: &[u8]) -> Option<u32>
+    ensures { IfSome result (λ id. IsId digits.now id) }
+{
+    if digits.is_empty() || digits.len() > 7 {
+        return None;
+    }
+    let mut id = 0;
+    for digit in digits {
+        id = 16 * id + u32::from(digit_value(*digit)?);
+    }
+    Some(id)
+}
+
+/// The value of a lower-case hexadecimal digit.
+fn digit_value(byte: u8) -> Option<u8>
+    ensures { IfSome result (λ value. (is_hex_digit byte ≡ true) × (value ≡ digit_of byte) × (value < 16)) }
+{
+    match byte {
+        b'0'..=b'9' => Some(byte - b'0'),
+        b'a'..=b'f' => Some(byte - b'a' + 10),
+        _ => None,
     }
 }
 

@@ -7,8 +7,8 @@ ghost use Rattle.flight_place.specs.Faults.{Refuses, Adds};
 use crate::fault::{PlaceFault, PlaceKind};
 use crate::parsed::Parsed;
 use crate::place::{Manner, Named, Place};
-use crate::token::{is_dollar, is_plain, is_text, mark_place, token_place};
-use flight_text::{Mark, whole};
+use crate::token::{is_dollar, is_plain, is_text, mark_place, plain_reference, token_place};
+use flight_text::{Mark, Ref, whole};
 use flight_value::{Atom, List, Text};
 use std::alloc::Global;
 use std::mem;
@@ -310,6 +310,10 @@ fn push_special(
     ensures count { OnOk result (length out.new.items ≡ length out.old.items + 1) }
     ensures err { IfErr result (Refuses manner (token (length out.old.items) text.now ∷ [])) }
 {
+    if let Some(id) = plain_reference(text) {
+        let path = List::new(Vec::new(alloc));
+        return push(out, Place::Value(Ref { id, path }));
+    }
     let at = next_number(out.as_slice())?;
     let place = token_place(alloc, manner, at, text)?;
     push(out, place)
