@@ -82,7 +82,7 @@ impl Writer {
 
     /// Appends a text in quotation marks. Nothing in it is escaped.
     #[inline]
-    pub fn push_quoted(&mut self, text: &str) -> Result<(), Memory>
+    pub(crate) fn push_quoted(&mut self, text: &str) -> Result<(), Memory>
         ensures { OnOk result (self.new ≡ self.old ++ 34 ∷ (text.now ++ 34 ∷ [])) }
     {
         let room = self.gathered.room();
