@@ -14,9 +14,9 @@ use Rattle.flight_syntax.specs.Derives.{Said, said, Derives}
 use Rattle.flight_syntax.specs.Derives as says
 use Rattle.flight_grammar.specs.Outcome as outcome
 use Rattle.flight_grammar.specs.Outcome.{Outcome, ComesTo, HasOneOutcome}
-use Rattle.flight_parse.specs.declared.fault.ParseFault.{ParseFault}
-use Rattle.flight_parse.specs.declared.fault.ParseFault.TheVariants as parse
-use Rattle.flight_parse.specs.Reports.{IsParseFault}
+use Rattle.flight_resolve.specs.declared.fault.ParseFault.{ParseFault}
+use Rattle.flight_resolve.specs.declared.fault.ParseFault.TheVariants as parse
+use Rattle.flight_resolve.specs.Reports.{IsParseFault}
 use Rattle.flight_script.specs.declared.fault.ScriptFault.{ScriptFault}
 use Rattle.flight_script.specs.Program.{Named, names_in, names_of, program_tests, named_tests}
 use Rattle.flight_script.specs.Script.{tests, IsScriptOf, IsFaultOf}

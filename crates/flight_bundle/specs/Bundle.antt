@@ -4,8 +4,8 @@ use Rattle.std.specs.Str.{IsUtf8}
 use Rattle.std.specs.Str.Lossy.{utf8_valid_len}
 use Rattle.flight_syntax.specs.declared.program.Declared.{Declared}
 use Rattle.flight_syntax.specs.Derives.{Derives}
-use Rattle.flight_parse.specs.declared.fault.ParseFault.TheVariants as parse
-use Rattle.flight_parse.specs.Reports.{IsParseFault}
+use Rattle.flight_resolve.specs.declared.fault.ParseFault.TheVariants as parse
+use Rattle.flight_resolve.specs.Reports.{IsParseFault}
 use Rattle.flight_script.specs.Script.{IsScriptOf, IsFaultOf}
 use Rattle.flight_render.specs.declared.root.Ground.{Ground}
 use Rattle.flight_render.specs.declared.root.Root.TheVariants.{App}

@@ -1,4 +1,4 @@
-use flight_parse::ParseFault;
+use flight_resolve::ParseFault;
 use flight_script::ScriptFault;
 
 /// Why bytes are no bundle. Places are in bytes, from 0.

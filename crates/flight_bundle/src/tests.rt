@@ -1,5 +1,5 @@
 use crate::{Bundle, BundleFault, one_bundle, read_bundle};
-use flight_parse::ParseFault;
+use flight_resolve::ParseFault;
 use flight_script::ScriptFault;
 use std::alloc::Global;
 use std::test::Fail;

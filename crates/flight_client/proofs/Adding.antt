@@ -2,7 +2,7 @@
 use Rattle.std.proofs.Common.{suc, arith, All, List, [], ◌∷◌, ◌++◌, sym, ◌∙◌, ap, append_assoc, append-nil}
 use Rattle.std.specs.List.{AllZip}
 use Rattle.flight_feed.specs.declared.arrived.Arrived.{Arrived}
-use Rattle.flight_place.specs.declared.place.PlacedRow.{PlacedRow}
+use Rattle.flight_meaning.specs.declared.place.PlacedRow.{PlacedRow}
 use Rattle.flight_client.specs.Rows.{IsPlacedRow}
 use Rattle.flight_client.specs.Adding.{IsReadable, Adds}
 

@@ -5,8 +5,8 @@ use Rattle.flight_row.specs.declared.row.Row.{Row}
 use Rattle.flight_row.specs.Rows.{Item, handed, rows_of, SpellsItem, SpellAll}
 use Rattle.flight_feed.proofs.Scan.{scan, start}
 use Rattle.flight_feed.proofs.Readings.{item_whole, one_item, IsTail}
-use Rattle.flight_place.specs.declared.place.Manner.TheVariants.{Wire}
-use Rattle.flight_place.specs.declared.place.PlacedRow.{PlacedRow}
+use Rattle.flight_place.specs.declared.manner.Manner.TheVariants.{Wire}
+use Rattle.flight_meaning.specs.declared.place.PlacedRow.{PlacedRow}
 use Rattle.flight_place.proofs.Trees.{tree-one}
 use Rattle.flight_client.specs.Rows.{IsPlacedRow, ArePlaced}
 use Rattle.flight_client.proofs.Items.{rows_of-append}

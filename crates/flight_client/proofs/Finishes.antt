@@ -4,14 +4,14 @@ use Rattle.flight_row.specs.Rows.{SpellAll}
 use Rattle.flight_feed.specs.declared.fault.FeedKind.TheVariants.{Cut}
 use Rattle.flight_feed.specs.Fed.{Fed}
 use Rattle.flight_feed.proofs.Ends.{refused_fails}
-use Rattle.flight_place.specs.declared.place.PlacedRow.{PlacedRow}
+use Rattle.flight_meaning.specs.declared.place.PlacedRow.{PlacedRow}
 use Rattle.flight_client.specs.declared.fault.ClientFault.{ClientFault}
 use Rattle.flight_client.specs.declared.fault.ClientFault.TheVariants as fault
 use Rattle.flight_client.specs.Rows.{IsWhole}
 use Rattle.flight_client.specs.Faults.{HasFeedEnd, EndsWithFault}
 use Rattle.flight_client.specs.Adding.{IsWanting, IsEndFault}
 use Rattle.std.specs.Prelude.{Result, Ok, Err, OnOk}
-use Rattle.flight_place.specs.Good.{IsGood}
+use Rattle.flight_meaning.specs.Good.{IsGood}
 use Rattle.flight_client.specs.Held.{IsOn, Stands}
 
 pub none_unless : {A : Type 0} (xs : List A) → ¬ (xs ≢ []) → xs ≡ []

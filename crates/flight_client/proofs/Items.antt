@@ -7,7 +7,7 @@ use Rattle.flight_row.specs.declared.row.RowKind.TheVariants as row
 use Rattle.flight_row.specs.Rows.{Item, handed, hint, rows_of, SpellAll, IsRow, IsLineHead}
 use Rattle.flight_feed.specs.declared.arrived.Arrived.{Arrived}
 use Rattle.flight_feed.specs.Stream.{numbered}
-use Rattle.flight_place.specs.declared.place.PlacedRow.{PlacedRow}
+use Rattle.flight_meaning.specs.declared.place.PlacedRow.{PlacedRow}
 use Rattle.flight_client.specs.Rows.{IsPlacedRow, ArePlaced}
 use Rattle.flight_client.specs.Adding.{IsReadable}
 

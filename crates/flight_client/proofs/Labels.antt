@@ -1,8 +1,8 @@
 -- Labels that a look gave stay.
 use Rattle.std.proofs.Common.{List, sym, ◌∙◌}
 use Rattle.flight_graph.specs.declared.label.Label.TheVariants as label
-use Rattle.flight_place.specs.declared.place.PlacedRow.{PlacedRow}
-use Rattle.flight_place.specs.Meaning.{value_of}
+use Rattle.flight_meaning.specs.declared.place.PlacedRow.{PlacedRow}
+use Rattle.flight_meaning.specs.Meaning.{value_of}
 use Rattle.flight_link.specs.Looking.{sees_atom, sees_node}
 use Rattle.flight_client.specs.AnyPrefix.{LabelsStay}
 use Rattle.flight_client.proofs.Lasting.{sight_lasts}

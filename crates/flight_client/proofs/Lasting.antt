@@ -8,14 +8,14 @@ use Rattle.flight_value.specs.declared.graph.Atom.TheVariants as atom
 use Rattle.flight_value.specs.declared.graph.Flow.{Flow}
 use Rattle.flight_text.specs.declared.mark.Ref.{Ref}
 use Rattle.flight_graph.specs.Look.{kind_of}
-use Rattle.flight_place.specs.declared.place.Place.{Place}
-use Rattle.flight_place.specs.declared.place.Place.TheVariants as place
-use Rattle.flight_place.specs.declared.place.PlacedRow.{PlacedRow}
-use Rattle.flight_place.specs.Linked.{Spot, place_at}
-use Rattle.flight_place.specs.Meaning.{Written, Identity, made_at, promise_of, stream_of, action_of, Token, map_token, set_token, token_label, HasShapeHere, HasTokenShape, Reference, action_shape, reference_of, Leads, HasShape, pending}
-use Rattle.flight_place.specs.Lasting.{HasEnded}
-use Rattle.flight_place.proofs.MoreRows.{slice_get-front}
-use Rattle.flight_place.proofs.MoreMeaning.{shape-more, leads-more, stream-grows}
+use Rattle.flight_meaning.specs.declared.place.Place.{Place}
+use Rattle.flight_meaning.specs.declared.place.Place.TheVariants as place
+use Rattle.flight_meaning.specs.declared.place.PlacedRow.{PlacedRow}
+use Rattle.flight_meaning.specs.Linked.{Spot, place_at}
+use Rattle.flight_meaning.specs.Meaning.{Written, Identity, made_at, promise_of, stream_of, action_of, Token, map_token, set_token, token_label, HasShapeHere, HasTokenShape, Reference, action_shape, reference_of, Leads, HasShape, pending}
+use Rattle.flight_meaning.specs.Lasting.{HasEnded}
+use Rattle.flight_meaning.proofs.MoreRows.{slice_get-front}
+use Rattle.flight_meaning.proofs.MoreMeaning.{shape-more, leads-more, stream-grows}
 use Rattle.flight_link.specs.Looking.{Sight, sees_atom, sees_node, awaits, no_place, SeesHere, SeesPast, InSlot, Sees}
 use Rattle.flight_client.specs.AnyPrefix.{Lasts}
 

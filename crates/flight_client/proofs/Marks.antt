@@ -2,14 +2,14 @@
 use Rattle.std.proofs.Common.{◌≡◌, ℕ, zero, suc, ◌+◌, ◌<◌, ◌≤◌, Bool, true, false, List, [], ◌∷◌, ◌++◌, length, take, refl, sym, ◌∙◌, ap, subst, Option, Some, None, arith, eq-eqb}
 use Rattle.std.specs.Prelude.{slice_get, option_and_then, ◌==◌}
 use Rattle.std.proofs.lemmas.List.Sums.{sum_by-cons}
-use Rattle.flight_place.specs.declared.place.Place.{Place}
-use Rattle.flight_place.specs.declared.place.Place.TheVariants as place
-use Rattle.flight_place.specs.declared.place.PlaceTree.{PlaceTree}
-use Rattle.flight_place.specs.declared.place.PlacedRow.{PlacedRow}
-use Rattle.flight_place.specs.Linked as linked
-use Rattle.flight_place.specs.Linked.{rows_of, place_at}
-use Rattle.flight_place.specs.Meaning.{Identity, made_at, promise_of, stream_of, action_of}
-use Rattle.flight_place.proofs.MoreRows.{rows_of-append, rows_of-same, rows_of-other, slice_get-front, place-more, places-stay}
+use Rattle.flight_meaning.specs.declared.place.Place.{Place}
+use Rattle.flight_meaning.specs.declared.place.Place.TheVariants as place
+use Rattle.flight_meaning.specs.declared.place.PlaceTree.{PlaceTree}
+use Rattle.flight_meaning.specs.declared.place.PlacedRow.{PlacedRow}
+use Rattle.flight_meaning.specs.Linked as linked
+use Rattle.flight_meaning.specs.Linked.{rows_of, place_at}
+use Rattle.flight_meaning.specs.Meaning.{Identity, made_at, promise_of, stream_of, action_of}
+use Rattle.flight_meaning.proofs.MoreRows.{rows_of-append, rows_of-same, rows_of-other, slice_get-front, place-more, places-stay}
 use Rattle.flight_link.specs.Spots.{IsNumber, IsFirst, places_in}
 use Rattle.flight_link.specs.Looking.{IsMark}
 

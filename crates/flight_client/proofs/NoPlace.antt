@@ -4,17 +4,17 @@ use Rattle.std.specs.Prelude.{slice_get}
 use Rattle.flight_value.specs.Store as store
 use Rattle.flight_value.specs.Store.{Label, Shape}
 use Rattle.flight_value.specs.declared.graph.Flow.{Flow}
-use Rattle.flight_place.specs.declared.place.Place.{Place}
-use Rattle.flight_place.specs.declared.place.Place.TheVariants as place
-use Rattle.flight_place.specs.declared.place.PlaceTree.{PlaceTree}
-use Rattle.flight_place.specs.declared.place.PlacedRow.{PlacedRow}
-use Rattle.flight_place.specs.Linked.{rows_of, Spot, place_at}
-use Rattle.flight_place.specs.Resolve.{to, found, not_yet, Ends}
-use Rattle.flight_place.specs.Meaning.{Written, value_of, Identity, made_at, promise_of, stream_of, action_of, pending, stand_of, Leads, HasShape, reference_of}
-use Rattle.flight_place.specs.Lasting.{HasEnded, IsSettledHere, IsSettled}
-use Rattle.flight_place.proofs.MoreRows.{rows_of-first, places-stay, slice_get-front}
-use Rattle.flight_place.proofs.MoreMeaning.{shape-more, leads-more}
-use Rattle.flight_place.proofs.Settled.{ends-back, settled-stays}
+use Rattle.flight_meaning.specs.declared.place.Place.{Place}
+use Rattle.flight_meaning.specs.declared.place.Place.TheVariants as place
+use Rattle.flight_meaning.specs.declared.place.PlaceTree.{PlaceTree}
+use Rattle.flight_meaning.specs.declared.place.PlacedRow.{PlacedRow}
+use Rattle.flight_meaning.specs.Linked.{rows_of, Spot, place_at}
+use Rattle.flight_meaning.specs.Resolve.{to, found, not_yet, Ends}
+use Rattle.flight_meaning.specs.Meaning.{Written, value_of, Identity, made_at, promise_of, stream_of, action_of, pending, stand_of, Leads, HasShape, reference_of}
+use Rattle.flight_meaning.specs.Lasting.{HasEnded, IsSettledHere, IsSettled}
+use Rattle.flight_meaning.proofs.MoreRows.{rows_of-first, places-stay, slice_get-front}
+use Rattle.flight_meaning.proofs.MoreMeaning.{shape-more, leads-more}
+use Rattle.flight_meaning.proofs.Settled.{ends-back, settled-stays}
 use Rattle.flight_link.specs.Looking.{AwaitsHere, Awaits, awaits, no_place, SeesHere, SeesPast, InSlot, Sees}
 use Rattle.flight_client.specs.AnyPrefix.{NoPlaceStays}
 use Rattle.flight_client.proofs.SlotsThere.{IsSlotThere, row_there, slot_there}

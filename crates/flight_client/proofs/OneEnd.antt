@@ -11,11 +11,11 @@ use Rattle.flight_value.specs.Store.{DrawOneGraph, of_graph}
 use Rattle.flight_value.specs.declared.graph.Graph.{Graph}
 use Rattle.flight_graph.specs.Canon.{canon_of}
 use Rattle.flight_graph.proofs.Drawn.{drawn_one_canon}
-use Rattle.flight_place.specs.declared.place.PlacedRow.{PlacedRow}
-use Rattle.flight_place.specs.Linked as linked
-use Rattle.flight_place.specs.Meaning.{meaning}
-use Rattle.flight_place.specs.Good.{IsGood, IsLeastUndefined}
-use Rattle.flight_place.proofs.OneMeaning.{leads_once, stands_once}
+use Rattle.flight_meaning.specs.declared.place.PlacedRow.{PlacedRow}
+use Rattle.flight_meaning.specs.Linked as linked
+use Rattle.flight_meaning.specs.Meaning.{meaning}
+use Rattle.flight_meaning.specs.Good.{IsGood, IsLeastUndefined}
+use Rattle.flight_meaning.proofs.OneMeaning.{leads_once, stands_once}
 use Rattle.flight_client.specs.declared.fault.ClientFault.{ClientFault}
 use Rattle.flight_client.specs.declared.fault.ClientFault.TheVariants as fault
 use Rattle.flight_client.specs.Rows.{HaveRows, HasSoFar, IsWhole}

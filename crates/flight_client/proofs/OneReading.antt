@@ -8,9 +8,9 @@ use Rattle.flight_feed.specs.Parts.{IsPart}
 use Rattle.flight_feed.specs.Stream.{Refuses}
 use Rattle.flight_feed.proofs.Readings.{IsTail, part_tail, bad_tail, has_one_reading}
 use Rattle.flight_place.specs.declared.fault.PlaceKind.{PlaceKind}
-use Rattle.flight_place.specs.declared.place.Manner.TheVariants.{Wire}
-use Rattle.flight_place.specs.declared.place.PlaceTree.{PlaceTree}
-use Rattle.flight_place.specs.declared.place.PlacedRow.{PlacedRow}
+use Rattle.flight_place.specs.declared.manner.Manner.TheVariants.{Wire}
+use Rattle.flight_meaning.specs.declared.place.PlaceTree.{PlaceTree}
+use Rattle.flight_meaning.specs.declared.place.PlacedRow.{PlacedRow}
 use Rattle.flight_place.specs.Rows.{IsTree, IsRowFault}
 use Rattle.flight_place.proofs.Trees.{tree-one, first-one, have-no_fault}
 use Rattle.flight_link.specs.declared.fault.LinkKind.{LinkKind}

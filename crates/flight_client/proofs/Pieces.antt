@@ -12,8 +12,8 @@ use Rattle.flight_feed.specs.Parts.{IsPart}
 use Rattle.flight_feed.specs.Stream.{Advances, IsRefused, IsLeft, numbered}
 use Rattle.flight_feed.proofs.Parts.{no_part}
 use Rattle.flight_feed.proofs.Runs.{SpellAll-append}
-use Rattle.flight_place.specs.declared.place.PlacedRow.{PlacedRow}
-use Rattle.flight_place.specs.Linked.{absent}
+use Rattle.flight_meaning.specs.declared.place.PlacedRow.{PlacedRow}
+use Rattle.flight_meaning.specs.Linked.{absent}
 use Rattle.flight_link.specs.Adding.{is_of_stream}
 use Rattle.flight_client.specs.declared.fault.ClientFault.{ClientFault}
 use Rattle.flight_client.specs.declared.fault.ClientFault.TheVariants as fault

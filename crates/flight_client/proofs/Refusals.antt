@@ -3,9 +3,9 @@ use Rattle.std.proofs.Common.{◌≡◌, ℕ, List, [], ◌∷◌, ◌++◌, ref
 use Rattle.std.specs.Prelude.{All}
 use Rattle.std.proofs.Common.{suc, arith, eq-eqb}
 use Rattle.flight_row.specs.declared.row.RowKind.{RowKind}
-use Rattle.flight_place.specs.declared.place.PlacedRow.{PlacedRow}
-use Rattle.flight_place.specs.Linked.{Standing, Refusal, Verdict, goes, refused, twice, not_open, after_end, next, after, rows_of, standing_of, FollowOn}
-use Rattle.flight_place.proofs.MoreRows.{rows_of-same, standing-append, follow_front}
+use Rattle.flight_meaning.specs.declared.place.PlacedRow.{PlacedRow}
+use Rattle.flight_meaning.specs.Linked.{Standing, Refusal, Verdict, goes, refused, twice, not_open, after_end, next, after, rows_of, standing_of, FollowOn}
+use Rattle.flight_meaning.proofs.MoreRows.{rows_of-same, standing-append, follow_front}
 use Rattle.flight_link.specs.Adding.{is_of_stream, HasVerdict, IsRefused}
 use Rattle.flight_link.specs.declared.fault.LinkKind.{LinkKind}
 use Rattle.flight_link.specs.declared.fault.LinkKind.TheVariants as kind

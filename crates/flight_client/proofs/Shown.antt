@@ -11,9 +11,9 @@ use Rattle.flight_value.specs.declared.graph.Node.{Node}
 use Rattle.flight_value.specs.declared.graph.Graph.{Graph}
 use Rattle.flight_graph.specs.Canon.{node_at, slots_at}
 use Rattle.flight_graph.specs.Look.{slot_along}
-use Rattle.flight_place.specs.declared.place.PlacedRow.{PlacedRow}
-use Rattle.flight_place.specs.Meaning.{Written, Identity, made_at, promise_of, stream_of, action_of, Leads, HasShape, meaning}
-use Rattle.flight_place.proofs.OneMeaning.{leads_once, stands_once}
+use Rattle.flight_meaning.specs.declared.place.PlacedRow.{PlacedRow}
+use Rattle.flight_meaning.specs.Meaning.{Written, Identity, made_at, promise_of, stream_of, action_of, Leads, HasShape, meaning}
+use Rattle.flight_meaning.proofs.OneMeaning.{leads_once, stands_once}
 use Rattle.flight_link.specs.Looking.{Sight, sees_atom, sees_node, awaits, no_place, SeesHere, SeesPast, InSlot, Sees}
 use Rattle.flight_client.specs.AnyPrefix.{Holds, ShowsAlike}
 

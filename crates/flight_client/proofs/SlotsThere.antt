@@ -7,15 +7,15 @@ use Rattle.flight_value.specs.declared.graph.Atom.TheVariants as atom
 use Rattle.flight_text.specs.declared.mark.Ref.{Ref}
 use Rattle.flight_row.specs.declared.row.RowKind.{RowKind}
 use Rattle.flight_row.specs.declared.row.RowKind.TheVariants as row
-use Rattle.flight_place.specs.declared.place.Place.{Place}
-use Rattle.flight_place.specs.declared.place.Place.TheVariants as place
-use Rattle.flight_place.specs.declared.place.PlaceTree.{PlaceTree}
-use Rattle.flight_place.specs.declared.place.PlacedRow.{PlacedRow}
-use Rattle.flight_place.specs.Linked.{rows_of, Spot, place_at, first_place, beside, HasRowOf}
-use Rattle.flight_place.specs.Resolve.{property, Stand, found, stream, not_yet, nowhere, Ends, IsThere}
-use Rattle.flight_place.specs.Meaning.{Written, at_place, value_of, Identity, made_at, promise_of, stream_of, action_of, at_places, Token, map_token, set_token, entry, both, entries, slots_in, HasSlots, HasShapeHere, HasTokenShape, Reference, bound_at, reference_with, there, reference_in, reference_by, reference_of, Flowed, with_row, flowed, final_slots, opened, stream_shape, action_shape, HasShape, stand_of}
-use Rattle.flight_place.proofs.Walking.{found_stops}
-use Rattle.flight_place.proofs.MoreRows.{place_row}
+use Rattle.flight_meaning.specs.declared.place.Place.{Place}
+use Rattle.flight_meaning.specs.declared.place.Place.TheVariants as place
+use Rattle.flight_meaning.specs.declared.place.PlaceTree.{PlaceTree}
+use Rattle.flight_meaning.specs.declared.place.PlacedRow.{PlacedRow}
+use Rattle.flight_meaning.specs.Linked.{rows_of, Spot, place_at, first_place, beside, HasRowOf}
+use Rattle.flight_meaning.specs.Resolve.{property, Stand, found, stream, not_yet, nowhere, Ends, IsThere}
+use Rattle.flight_meaning.specs.Meaning.{Written, at_place, value_of, Identity, made_at, promise_of, stream_of, action_of, at_places, Token, map_token, set_token, entry, both, entries, slots_in, HasSlots, HasShapeHere, HasTokenShape, Reference, bound_at, reference_with, there, reference_in, reference_by, reference_of, Flowed, with_row, flowed, final_slots, opened, stream_shape, action_shape, HasShape, stand_of}
+use Rattle.flight_meaning.proofs.Walking.{found_stops}
+use Rattle.flight_meaning.proofs.MoreRows.{place_row}
 
 pub row_there : (rows : List PlacedRow) (s : Stand) (t : Spot) → Ends rows s (found t) → HasRowOf rows t
 row_there rows s t w = let p = found_stops rows s t w in place_row rows t p.0 p.1

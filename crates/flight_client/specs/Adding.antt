@@ -4,12 +4,12 @@ use Rattle.std.specs.List.{AllZip}
 use Rattle.flight_feed.specs.declared.arrived.Arrived.{Arrived}
 use Rattle.flight_feed.specs.declared.fault.FeedKind.TheVariants.{Cut}
 use Rattle.flight_feed.specs.Fed.{Fed}
-use Rattle.flight_place.specs.declared.place.Manner.TheVariants.{Wire}
-use Rattle.flight_place.specs.declared.place.PlaceTree.{PlaceTree}
-use Rattle.flight_place.specs.declared.place.PlacedRow.{PlacedRow}
+use Rattle.flight_place.specs.declared.manner.Manner.TheVariants.{Wire}
+use Rattle.flight_meaning.specs.declared.place.PlaceTree.{PlaceTree}
+use Rattle.flight_meaning.specs.declared.place.PlacedRow.{PlacedRow}
 use Rattle.flight_place.specs.Rows.{IsTree, IsRowFault}
-use Rattle.flight_place.specs.Linked as linked
-use Rattle.flight_place.specs.Good.{IsLeastUndefined}
+use Rattle.flight_meaning.specs.Linked as linked
+use Rattle.flight_meaning.specs.Good.{IsLeastUndefined}
 use Rattle.flight_link.specs.Adding.{IsRefused}
 use Rattle.flight_client.specs.declared.fault.ClientFault.{ClientFault}
 use Rattle.flight_client.specs.declared.fault.ClientFault.TheVariants as fault

@@ -7,8 +7,8 @@ use Rattle.flight_value.specs.declared.graph.Node.{Node}
 use Rattle.flight_value.specs.declared.graph.Graph.{Graph}
 use Rattle.flight_graph.specs.Canon.{node_at}
 use Rattle.flight_graph.specs.Look.{kind_of, slot_along}
-use Rattle.flight_place.specs.declared.place.PlacedRow.{PlacedRow}
-use Rattle.flight_place.specs.Meaning.{Written, Identity, HasShape}
+use Rattle.flight_meaning.specs.declared.place.PlacedRow.{PlacedRow}
+use Rattle.flight_meaning.specs.Meaning.{Written, Identity, HasShape}
 use Rattle.flight_link.specs.Looking.{Sight, sees_atom, sees_node, Sees, Shows, IsMark, IsSeen}
 use Rattle.flight_link.specs.declared.found.Seen.TheVariants as seen
 use Rattle.flight_graph.specs.declared.label.Label as look

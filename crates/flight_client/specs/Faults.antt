@@ -5,12 +5,12 @@ use Rattle.flight_row.specs.Rows.{Item, handed}
 use Rattle.flight_feed.specs.declared.fault.FeedKind.{FeedKind}
 use Rattle.flight_feed.specs.Stream.{Refuses, Fails}
 use Rattle.flight_place.specs.declared.fault.PlaceKind.{PlaceKind}
-use Rattle.flight_place.specs.declared.place.Manner.TheVariants.{Wire}
-use Rattle.flight_place.specs.declared.place.PlaceTree.{PlaceTree}
-use Rattle.flight_place.specs.declared.place.PlacedRow.{PlacedRow}
+use Rattle.flight_place.specs.declared.manner.Manner.TheVariants.{Wire}
+use Rattle.flight_meaning.specs.declared.place.PlaceTree.{PlaceTree}
+use Rattle.flight_meaning.specs.declared.place.PlacedRow.{PlacedRow}
 use Rattle.flight_place.specs.Rows.{IsTree, IsRowFault}
-use Rattle.flight_place.specs.Linked as linked
-use Rattle.flight_place.specs.Good.{IsLeastUndefined}
+use Rattle.flight_meaning.specs.Linked as linked
+use Rattle.flight_meaning.specs.Good.{IsLeastUndefined}
 use Rattle.flight_link.specs.declared.fault.LinkKind.{LinkKind}
 use Rattle.flight_link.specs.Adding.{IsRefused}
 use Rattle.flight_client.specs.declared.fault.ClientFault.{ClientFault}

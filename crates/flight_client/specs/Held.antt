@@ -3,7 +3,7 @@ use Rattle.std.specs.Prelude.{ℕ, ◌+◌, ◌≡◌, Option, Some, None, Resul
 use Rattle.flight_row.specs.Rows.{Item}
 use Rattle.flight_feed.specs.Fed.{Fed}
 use Rattle.flight_feed.specs.Stream.{Splits}
-use Rattle.flight_place.specs.declared.place.PlacedRow.{PlacedRow}
+use Rattle.flight_meaning.specs.declared.place.PlacedRow.{PlacedRow}
 use Rattle.flight_client.specs.declared.fault.ClientFault.{ClientFault}
 use Rattle.flight_client.specs.declared.fault.ClientFault.TheVariants as fault
 use Rattle.flight_client.specs.Rows.{HaveRows, StartsWith}

@@ -2,9 +2,9 @@
 use Rattle.std.specs.Prelude.{ℕ, List}
 use Rattle.flight_value.specs.Store.{DrawOneGraph, of_graph}
 use Rattle.flight_value.specs.declared.graph.Graph.{Graph}
-use Rattle.flight_place.specs.declared.place.PlacedRow.{PlacedRow}
-use Rattle.flight_place.specs.Meaning.{meaning}
-use Rattle.flight_place.specs.Good.{IsGood}
+use Rattle.flight_meaning.specs.declared.place.PlacedRow.{PlacedRow}
+use Rattle.flight_meaning.specs.Meaning.{meaning}
+use Rattle.flight_meaning.specs.Good.{IsGood}
 use Rattle.flight_client.specs.Rows.{IsWhole}
 
 -- the stream is good rows, and the graph is the one that they mean

@@ -4,10 +4,10 @@ use Rattle.std.specs.List.{AllZip}
 use Rattle.flight_row.specs.declared.row.Row.{Row}
 use Rattle.flight_row.specs.Rows.{Item, rows_of, SpellAll}
 use Rattle.flight_feed.specs.Stream.{Splits}
-use Rattle.flight_place.specs.declared.place.Manner.TheVariants.{Wire}
-use Rattle.flight_place.specs.declared.place.PlacedRow.{PlacedRow}
+use Rattle.flight_place.specs.declared.manner.Manner.TheVariants.{Wire}
+use Rattle.flight_meaning.specs.declared.place.PlacedRow.{PlacedRow}
 use Rattle.flight_place.specs.Rows.{IsTree}
-use Rattle.flight_place.specs.Linked.{FollowOn}
+use Rattle.flight_meaning.specs.Linked.{FollowOn}
 use Rattle.flight_link.specs.Adding.{is_of_stream}
 
 -- the row with its places, as a server writes them

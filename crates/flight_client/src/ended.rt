@@ -3,8 +3,8 @@ ghost use Rattle.flight_value.specs.Graph.{IsValid};
 ghost use Rattle.flight_value.specs.Store.{DrawOneGraph, of_graph};
 ghost use Rattle.flight_value.specs.declared.graph.Graph.{Graph};
 ghost use Rattle.flight_graph.specs.Text.{text_of};
-ghost use Rattle.flight_place.specs.Meaning.{meaning};
-ghost use Rattle.flight_place.specs.Good.{IsGood};
+ghost use Rattle.flight_meaning.specs.Meaning.{meaning};
+ghost use Rattle.flight_meaning.specs.Good.{IsGood};
 ghost use Rattle.flight_client.specs.Adding.{IsWanting, IsEndFault};
 
 use crate::fault::ClientFault;

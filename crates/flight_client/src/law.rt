@@ -1,8 +1,8 @@
 ghost use Rattle.std.specs.Prelude.{ℕ, List, ◌++◌};
 ghost use Rattle.flight_value.specs.Store.{DrawOneGraph, of_graph};
 ghost use Rattle.flight_value.specs.declared.graph.Graph.{Graph};
-ghost use Rattle.flight_place.specs.declared.place.PlacedRow.{PlacedRow};
-ghost use Rattle.flight_place.specs.Meaning.{Written, meaning};
+ghost use Rattle.flight_meaning.specs.declared.place.PlacedRow.{PlacedRow};
+ghost use Rattle.flight_meaning.specs.Meaning.{Written, meaning};
 ghost use Rattle.flight_link.specs.Looking.{Sight, Sees};
 ghost use Rattle.flight_client.specs.AnyPrefix.{HasOneMark, LabelsStay, Lasts, NoPlaceStays, ShowsAlike};
 ghost use Rattle.flight_client.specs.OneReading.{HasOneReading, HasOneEnd};

@@ -1,5 +1,5 @@
 ghost use Rattle.std.specs.Prelude.{◌≡◌, ◌∷◌, [], All, IfErr, OnOk, OnErr};
-ghost use Rattle.flight_place.specs.Linked.{FollowOn};
+ghost use Rattle.flight_meaning.specs.Linked.{FollowOn};
 ghost use Rattle.flight_client.specs.Adding.{IsReadable, IsFailure, Adds, StopsAt};
 
 use crate::fault::ClientFault;

@@ -28,7 +28,7 @@ fn argument(ground: &Ground, slot: &Slot) -> Result<Tree, Memory>
         Root::App => Ok(Tree::Atom(Atom::Undefined)),
         Root::Call { .. } => match u32::try_from(ground.script.sources.as_slice().len()) {
             Ok(source) => slot_tree(source, slot),
-            Err(_) => Err(Memory),
+            Err(_) => Err(Memory::past_limit()),
         },
     }
 }
@@ -139,7 +139,7 @@ pub fn attempted(alloc: Global, ground: &Ground, job: &Job, fuel: u32) -> Result
         Err(Stop::Threw(digest)) => finished(alloc, job, tables, Gave::Threw(digest), work),
         Err(Stop::Waits { source }) => Ok(Attempt::Waits { source }),
         Err(Stop::OverFuel) => Ok(Attempt::OverFuel),
-        Err(Stop::Memory) => Err(Memory),
+        Err(Stop::Memory) => Err(Memory::past_limit()),
     }
 }
 

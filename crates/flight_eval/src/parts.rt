@@ -132,7 +132,7 @@ fn source_named(ground: &Ground, name: &str) -> Result<Option<u32>, Memory>
     match source_at(ground.script.sources.as_slice(), name) {
         Some(at) => match u32::try_from(at) {
             Ok(at) => Ok(Some(at)),
-            Err(_) => Err(Memory),
+            Err(_) => Err(Memory::past_limit()),
         },
         None => Ok(None),
     }
@@ -157,7 +157,7 @@ fn stream_named(ground: &Ground, name: &str) -> Result<Option<u32>, Memory>
     match stream_at(ground.script.streams.as_slice(), name) {
         Some(at) => match u32::try_from(at) {
             Ok(at) => Ok(Some(at)),
-            Err(_) => Err(Memory),
+            Err(_) => Err(Memory::past_limit()),
         },
         None => Ok(None),
     }

@@ -83,7 +83,7 @@ pub fn shown(alloc: Global, attempt: &Attempt) -> Result<String, Memory> {
     match attempt {
         Attempt::Finished { bodies } => match bodies.as_slice() {
             [body] => shown_body(alloc, body),
-            _ => Err(Memory),
+            _ => Err(Memory::past_limit()),
         },
         Attempt::Waits { source } => Ok(format!(in alloc; "waits {source}")?),
         Attempt::OverFuel => Ok(String::from_str(alloc, "over fuel")?),

@@ -7,7 +7,7 @@ use std::alloc::Global;
 
 /// Takes the last expression.
 fn last(stack: &mut Vec<Expr>) -> Result<Expr, Memory> {
-    stack.pop().ok_or(Memory)
+    stack.pop().ok_or(Memory::past_limit())
 }
 
 /// Takes the last expression, in a box.
@@ -26,7 +26,7 @@ fn several(alloc: Global, stack: &mut Vec<Expr>, count: usize) -> Result<Vec<Exp
 }
 
 fn number(digits: &str) -> Result<u32, Memory> {
-    digits.parse::<u32>().map_err(|_| Memory)
+    digits.parse::<u32>().map_err(|_| Memory::past_limit())
 }
 
 /// The constants.
@@ -203,15 +203,15 @@ fn marked(alloc: Global, stack: &mut Vec<Expr>, mark: &str, rest: &str) -> Resul
             Ok(Expr::Set(Items::from_vec(items)))
         }
         "?" => Ok(Expr::Map(pairs(alloc, stack, number(rest)?)?)),
-        _ => Err(Memory),
+        _ => Err(Memory::past_limit()),
     }
 }
 
 /// A whole, or a big number with an `n` behind it.
 fn numeral(word: &str) -> Result<Atom, Memory> {
     match word.strip_suffix('n') {
-        Some(digits) => Ok(Atom::Big(Wide::new(digits.parse::<i128>().map_err(|_| Memory)?))),
-        None => Ok(Atom::Whole(word.parse::<i64>().map_err(|_| Memory)?)),
+        Some(digits) => Ok(Atom::Big(Wide::new(digits.parse::<i128>().map_err(|_| Memory::past_limit())?))),
+        None => Ok(Atom::Whole(word.parse::<i64>().map_err(|_| Memory::past_limit())?)),
     }
 }
 
@@ -232,7 +232,7 @@ fn expression(alloc: Global, stack: &mut Vec<Expr>, word: &str) -> Result<Expr, 
         Ok(atom) => Ok(Expr::Atom(atom)),
         Err(_) => match word.split_at_checked(1) {
             Some((mark, rest)) => marked(alloc, stack, mark, rest),
-            None => Err(Memory),
+            None => Err(Memory::past_limit()),
         },
     }
 }

@@ -96,7 +96,7 @@ fn arguments(place: &Place, args: &Graph) -> Result<Vec<Tree>, Memory>
     ensures { IfOk result (λ env. env.items ≡ unwrap_or (items_in place.now.over.now [] (args_tree place.now.over.now args.now)) []) }
 {
     let Ok(source) = u32::try_from(place.over.script.sources.as_slice().len()) else {
-        return Err(Memory);
+        return Err(Memory::past_limit());
     };
     let root = slot_tree(source, &args.root)?;
     match items_in(place, &[], &root) {

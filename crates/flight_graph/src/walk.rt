@@ -78,7 +78,7 @@ fn visit(walk: &mut Walk, nodes: &[Node], node: u32) -> Result<(), Memory>
     ensures { OnOk result (Visits nodes.now node walk.old walk.new) }
 {
     let Ok(place) = u32::try_from(walk.order.len()) else {
-        return Err(Memory);
+        return Err(Memory::past_limit());
     };
     walk.order.push(node)?;
     walk.places[node as usize] = Some(place);

@@ -44,7 +44,7 @@ impl Writer {
         self.text
             .len()
             .checked_add(self.gathered.len())
-            .ok_or(Memory)
+            .ok_or(Memory::past_limit())
     }
 
     /// Appends a piece.
@@ -154,7 +154,7 @@ impl Writer {
     {
         let text = self.into_bytes()?;
         if !simdutf8::basic::from_utf8(text.as_slice()).is_ok() {
-            return Err(Memory);
+            return Err(Memory::past_limit());
         }
         // SAFETY: it was tested just now.
         Text::from_string(unsafe { String::from_utf8_unchecked(text) })

@@ -5,12 +5,12 @@ use Rattle.flight_value.specs.declared.graph.Slot.{Slot}
 use Rattle.flight_value.specs.declared.graph.Node.TheVariants as node
 use Rattle.flight_value.specs.Store as store
 use Rattle.flight_value.specs.Store.{Shape}
-use Rattle.flight_place.specs.declared.place.Place.TheVariants as place
-use Rattle.flight_place.specs.declared.place.Named.{Named}
-use Rattle.flight_place.specs.declared.place.PlacedRow.{PlacedRow}
-use Rattle.flight_place.specs.Linked.{place_at, beside, first_place}
-use Rattle.flight_place.specs.Resolve.{property}
-use Rattle.flight_place.specs.Meaning.{Written, at_place, action_of, Reference, reference_of, action_shape}
+use Rattle.flight_meaning.specs.declared.place.Place.TheVariants as place
+use Rattle.flight_meaning.specs.declared.place.Named.{Named}
+use Rattle.flight_meaning.specs.declared.place.PlacedRow.{PlacedRow}
+use Rattle.flight_meaning.specs.Linked.{place_at, beside, first_place}
+use Rattle.flight_meaning.specs.Resolve.{property}
+use Rattle.flight_meaning.specs.Meaning.{Written, at_place, action_of, Reference, reference_of, action_shape}
 use Rattle.flight_link.specs.declared.found.Spot.{Spot}
 use Rattle.flight_link.specs.declared.key.NodeKey.{NodeKey}
 use Rattle.flight_link.specs.Nodes.{IsPlain, place_in, spot_of}

@@ -2,22 +2,22 @@
 use Rattle.std.proofs.Common.{◌≡◌, ◌≢◌, ℕ, zero, suc, ◌≤◌, ◌⊎◌, Bool, true, false, List, [], ◌∷◌, ◌++◌, length, Option, Some, None, option_and_then, slice_get, refl, sym, ◌∙◌, ap, subst, arith, inl, inr, min}
 use Rattle.std.proofs.lemmas.Bool.{false≢true}
 use Rattle.std.proofs.lemmas.Option.{none-some}
-use Rattle.flight_place.specs.declared.place.Place.{Place}
-use Rattle.flight_place.specs.declared.place.Place.TheVariants as place
-use Rattle.flight_place.specs.declared.place.PlaceTree.{PlaceTree}
-use Rattle.flight_place.specs.declared.place.PlacedRow.{PlacedRow}
+use Rattle.flight_meaning.specs.declared.place.Place.{Place}
+use Rattle.flight_meaning.specs.declared.place.Place.TheVariants as place
+use Rattle.flight_meaning.specs.declared.place.PlaceTree.{PlaceTree}
+use Rattle.flight_meaning.specs.declared.place.PlacedRow.{PlacedRow}
 use Rattle.flight_value.specs.declared.graph.Atom.TheVariants as atom
 use Rattle.flight_text.specs.declared.mark.Ref.{Ref}
 use Rattle.flight_row.specs.declared.row.RowKind.{RowKind}
 use Rattle.flight_row.specs.declared.row.RowKind.TheVariants as kind
 use Rattle.std.specs.Prelude.{is_some, ◌&&◌, ◌||◌, codes}
-use Rattle.flight_place.specs.Linked as linked
-use Rattle.flight_place.specs.Linked.{rows_of, place_at, first_place, beside}
-use Rattle.flight_place.specs.Meaning.{Written, Token, entry, both, entries, slots_in, slots_found, Reference, text_at, bound_at, reference_with, reference_in, reference_by, reference_of, there}
-use Rattle.flight_place.specs.Resolve.{Path, property, to, Found, found, stream, not_yet, nowhere, IsEnd, ComesToAnEnd}
-use Rattle.flight_place.specs.Good.{IsDefined, IsTokenDefined, IsHeld, IsLeastUndefined}
-use Rattle.flight_place.proofs.Walking.{one_end, turn_ends}
-use Rattle.flight_place.proofs.Paths.{absent_turn}
+use Rattle.flight_meaning.specs.Linked as linked
+use Rattle.flight_meaning.specs.Linked.{rows_of, place_at, first_place, beside}
+use Rattle.flight_meaning.specs.Meaning.{Written, Token, entry, both, entries, slots_in, slots_found, Reference, text_at, bound_at, reference_with, reference_in, reference_by, reference_of, there}
+use Rattle.flight_meaning.specs.Resolve.{Path, property, to, Found, found, stream, not_yet, nowhere, IsEnd, ComesToAnEnd}
+use Rattle.flight_meaning.specs.Good.{IsDefined, IsTokenDefined, IsHeld, IsLeastUndefined}
+use Rattle.flight_meaning.proofs.Walking.{one_end, turn_ends}
+use Rattle.flight_meaning.proofs.Paths.{absent_turn}
 use Rattle.flight_link.specs.declared.found.Spot.{Spot}
 use Rattle.flight_link.specs.declared.node.State.{State}
 use Rattle.flight_link.specs.declared.node.State.TheVariants.{Absent, Ended, Lost, Behind}
@@ -28,7 +28,7 @@ use Rattle.flight_link.specs.Least.{IsUndefinedIn, IsLeastIn, IsIn, IsInRows, le
 use Rattle.flight_link.proofs.PlainRows.{row_there, place_there, place_back, spot_in_row, one_row}
 use Rattle.flight_link.proofs.Waits.{waits_behind}
 use Rattle.flight_link.proofs.Growing.{push_get, push_at}
-use Rattle.flight_place.proofs.MoreRows.{slice_get-front}
+use Rattle.flight_meaning.proofs.MoreRows.{slice_get-front}
 
 -- ---- whether a walk comes to an end
 

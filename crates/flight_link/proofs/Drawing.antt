@@ -14,21 +14,21 @@ use Rattle.flight_value.specs.declared.graph.Node.{Node}
 use Rattle.flight_value.specs.declared.graph.Node.TheVariants as node
 use Rattle.flight_value.specs.Store as store
 use Rattle.flight_text.specs.declared.mark.Ref.{Ref}
-use Rattle.flight_place.specs.declared.place.Place.TheVariants as place
-use Rattle.flight_place.specs.declared.place.Named.{Named}
-use Rattle.flight_place.specs.declared.place.PlacedRow.{PlacedRow}
-use Rattle.flight_place.specs.Linked as linked
-use Rattle.flight_place.specs.Linked.{rows_of, place_at, beside}
-use Rattle.flight_place.specs.Resolve.{to, found, Ends}
-use Rattle.flight_place.specs.Meaning.{Written, at_place, value_of, slots_in, Identity, made_at, promise_of, action_of, at_places, entry, both, entries, map_token, set_token, HasSlots, HasShapeHere, Leads}
-use Rattle.flight_place.proofs.MoreRows.{slice_get-front}
+use Rattle.flight_meaning.specs.declared.place.Place.TheVariants as place
+use Rattle.flight_meaning.specs.declared.place.Named.{Named}
+use Rattle.flight_meaning.specs.declared.place.PlacedRow.{PlacedRow}
+use Rattle.flight_meaning.specs.Linked as linked
+use Rattle.flight_meaning.specs.Linked.{rows_of, place_at, beside}
+use Rattle.flight_meaning.specs.Resolve.{to, found, Ends}
+use Rattle.flight_meaning.specs.Meaning.{Written, at_place, value_of, slots_in, Identity, made_at, promise_of, action_of, at_places, entry, both, entries, map_token, set_token, HasSlots, HasShapeHere, Leads}
+use Rattle.flight_meaning.proofs.MoreRows.{slice_get-front}
 use Rattle.flight_link.specs.declared.found.Spot.{Spot}
 use Rattle.flight_link.specs.declared.key.NodeKey.{NodeKey}
 use Rattle.flight_link.specs.declared.key.NodeKey.TheVariants.{Made, Promise, Action}
 use Rattle.flight_link.specs.declared.numbers.Numbers.{Numbers}
 use Rattle.flight_link.specs.Nodes.{IsPlain, place_in, spot_of}
 use Rattle.flight_link.specs.Spots.{IsSpot, places_in}
-use Rattle.flight_place.specs.declared.place.Place.{Place}
+use Rattle.flight_meaning.specs.declared.place.Place.{Place}
 use Rattle.flight_link.specs.Backlogs.{cell}
 use Rattle.flight_link.specs.Numbering.{number_among, IsKey, number_of, HasNumber, AreNumbered, IsPut, Grows}
 use Rattle.flight_link.specs.Drawing.{identity_of, Draws, AreSlots, AreProps, IsPairAt, ArePairs, DrawsNode, AreDrawn, AreApart}

@@ -9,8 +9,8 @@ use Rattle.flight_value.specs.declared.graph.Graph.{Graph}
 use Rattle.flight_value.specs.Graph.{slots_of}
 use Rattle.flight_value.specs.Store as store
 use Rattle.flight_value.specs.Store.{Shape, SlotsFit, NodesFit, Fits, Paired, shape_of, of_graph}
-use Rattle.flight_place.specs.declared.place.PlacedRow.{PlacedRow}
-use Rattle.flight_place.specs.Meaning.{Written, value_of, Identity, HasShape, meaning}
+use Rattle.flight_meaning.specs.declared.place.PlacedRow.{PlacedRow}
+use Rattle.flight_meaning.specs.Meaning.{Written, value_of, Identity, HasShape, meaning}
 use Rattle.flight_link.specs.declared.key.NodeKey.{NodeKey}
 use Rattle.flight_link.specs.Drawing.{identity_of, numbered_from, Draws, AreDrawn, AreApart}
 use Rattle.flight_link.proofs.Drawing.{zip_as}

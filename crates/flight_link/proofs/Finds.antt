@@ -3,13 +3,13 @@ use Rattle.std.proofs.Common.{◌≡◌, ℕ, zero, suc, ◌+◌, List, [], ◌�
 use Rattle.std.proofs.lemmas.List.{take-append-drop}
 use Rattle.std.proofs.lemmas.Option.{slice_get_within}
 use Rattle.flight_text.specs.declared.mark.Ref.{Ref}
-use Rattle.flight_place.specs.declared.place.Place.{Place}
-use Rattle.flight_place.specs.declared.place.PlacedRow.{PlacedRow}
-use Rattle.flight_place.specs.Linked.{rows_of}
-use Rattle.flight_place.specs.Resolve.{to, not_yet}
-use Rattle.flight_place.proofs.Walking.{turn_ends}
-use Rattle.flight_place.proofs.Paths.{absent_turn}
-use Rattle.flight_place.proofs.MoreRows.{rows_of-append}
+use Rattle.flight_meaning.specs.declared.place.Place.{Place}
+use Rattle.flight_meaning.specs.declared.place.PlacedRow.{PlacedRow}
+use Rattle.flight_meaning.specs.Linked.{rows_of}
+use Rattle.flight_meaning.specs.Resolve.{to, not_yet}
+use Rattle.flight_meaning.proofs.Walking.{turn_ends}
+use Rattle.flight_meaning.proofs.Paths.{absent_turn}
+use Rattle.flight_meaning.proofs.MoreRows.{rows_of-append}
 use Rattle.flight_link.specs.declared.found.Spot.{Spot}
 use Rattle.flight_link.specs.declared.found.Found.TheVariants as answer
 use Rattle.flight_link.specs.declared.node.State.{State}

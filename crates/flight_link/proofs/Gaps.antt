@@ -5,9 +5,9 @@ use Rattle.std.specs.List.{AllZip, flat_map}
 use Rattle.flight_value.specs.declared.graph.Prop.{Prop}
 use Rattle.flight_value.specs.declared.graph.Pair.{Pair}
 use Rattle.flight_value.specs.declared.graph.Node.{Node}
-use Rattle.flight_place.specs.declared.place.Named.{Named}
-use Rattle.flight_place.specs.declared.place.PlacedRow.{PlacedRow}
-use Rattle.flight_place.specs.Meaning.{Written, value_of}
+use Rattle.flight_meaning.specs.declared.place.Named.{Named}
+use Rattle.flight_meaning.specs.declared.place.PlacedRow.{PlacedRow}
+use Rattle.flight_meaning.specs.Meaning.{Written, value_of}
 use Rattle.flight_graph.specs.Text.{atom_text, commas, line_text, lines_from, node_text, number_text, pair_text, prop_text, slot_text, string_text}
 use Rattle.flight_link.specs.declared.key.NodeKey.{NodeKey}
 use Rattle.flight_link.specs.declared.key.NodeKey.TheVariants.{Made, Promise, Action}

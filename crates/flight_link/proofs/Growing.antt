@@ -4,12 +4,12 @@ use Rattle.std.specs.Prelude.{All}
 use Rattle.flight_link.specs.Known.{known_of}
 use Rattle.std.proofs.lemmas.Bool.Decides.{eqb_tells}
 use Rattle.std.proofs.lemmas.Option.{none-some, same_Some, slice_get_within}
-use Rattle.flight_place.specs.declared.place.Place.{Place}
-use Rattle.flight_place.specs.declared.place.PlaceTree.{PlaceTree}
-use Rattle.flight_place.specs.declared.place.PlacedRow.{PlacedRow}
-use Rattle.flight_place.specs.Linked.{rows_of, place_at}
-use Rattle.flight_place.specs.Resolve.{Path, Stand, to, here, found, nowhere, Turn, on, ends, enter, go_to, go_from, turn}
-use Rattle.flight_place.proofs.MoreRows.{rows_of-append, rows_of-other, slice_get-front, place-more}
+use Rattle.flight_meaning.specs.declared.place.Place.{Place}
+use Rattle.flight_meaning.specs.declared.place.PlaceTree.{PlaceTree}
+use Rattle.flight_meaning.specs.declared.place.PlacedRow.{PlacedRow}
+use Rattle.flight_meaning.specs.Linked.{rows_of, place_at}
+use Rattle.flight_meaning.specs.Resolve.{Path, Stand, to, here, found, nowhere, Turn, on, ends, enter, go_to, go_from, turn}
+use Rattle.flight_meaning.proofs.MoreRows.{rows_of-append, rows_of-other, slice_get-front, place-more}
 use Rattle.flight_link.specs.declared.found.Spot.{Spot}
 use Rattle.flight_link.specs.declared.node.Start.{Start}
 use Rattle.flight_link.specs.declared.node.Start.TheVariants.{Id, Place as AtPlace}

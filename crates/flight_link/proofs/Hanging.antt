@@ -5,7 +5,7 @@ use Rattle.std.proofs.lemmas.Bool.{false≢true}
 use Rattle.std.proofs.lemmas.List.{length-set}
 use Rattle.std.proofs.lemmas.List.Sums.{sum_by-set, sum_by-cons, sum_by_push}
 use Rattle.std.proofs.lemmas.Option.{none-some, same_Some, slice_get_within, get_or_from_slice_get}
-use Rattle.flight_place.proofs.MoreRows.{slice_get-front}
+use Rattle.flight_meaning.proofs.MoreRows.{slice_get-front}
 use Rattle.flight_link.specs.declared.fresh.Fresh.{Fresh}
 use Rattle.flight_link.specs.declared.node.Start.{Start}
 use Rattle.flight_link.specs.declared.node.Start.TheVariants.{Id}
@@ -13,9 +13,9 @@ use Rattle.flight_link.specs.declared.node.State.{State}
 use Rattle.flight_link.specs.declared.node.State.TheVariants.{Absent, Ended, Lost, Behind}
 use Rattle.flight_link.specs.declared.table.Table.{Table}
 use Rattle.flight_link.specs.declared.backlog.Backlog.{Backlog}
-use Rattle.flight_place.specs.declared.place.PlaceTree.{PlaceTree}
-use Rattle.flight_place.specs.declared.place.PlacedRow.{PlacedRow}
-use Rattle.flight_place.specs.Resolve.{to}
+use Rattle.flight_meaning.specs.declared.place.PlaceTree.{PlaceTree}
+use Rattle.flight_meaning.specs.declared.place.PlacedRow.{PlacedRow}
+use Rattle.flight_meaning.specs.Resolve.{to}
 use Rattle.flight_link.specs.Growth.{MayCome, root_of}
 use Rattle.flight_link.specs.Nodes.{IsTable}
 use Rattle.flight_link.specs.Nodes.{is_done, is_ended, has_ended, IsQuiet, AreQuiet, AreStates, HasNode, IsSound, Moves, steps_left}

@@ -7,14 +7,14 @@ use Rattle.flight_text.specs.declared.mark.Ref.{Ref}
 use Rattle.flight_value.specs.declared.graph.Atom.TheVariants as atom
 use Rattle.flight_value.specs.Store as store
 use Rattle.flight_value.specs.Store.{Shape}
-use Rattle.flight_place.specs.declared.place.Place.{Place}
-use Rattle.flight_place.specs.declared.place.Place.TheVariants as place
-use Rattle.flight_place.specs.declared.place.Named.{Named}
-use Rattle.flight_place.specs.declared.place.PlacedRow.{PlacedRow}
-use Rattle.flight_place.specs.Linked as linked
-use Rattle.flight_place.specs.Linked.{place_at, beside, first_place}
-use Rattle.flight_place.specs.Resolve.{property, to, found, Ends}
-use Rattle.flight_place.specs.Meaning.{Written, at_place, value_of, at_places, entry, both, entries, slots_in, map_token, set_token, HasSlots, HasShapeHere, Reference, reference_of, action_shape}
+use Rattle.flight_meaning.specs.declared.place.Place.{Place}
+use Rattle.flight_meaning.specs.declared.place.Place.TheVariants as place
+use Rattle.flight_meaning.specs.declared.place.Named.{Named}
+use Rattle.flight_meaning.specs.declared.place.PlacedRow.{PlacedRow}
+use Rattle.flight_meaning.specs.Linked as linked
+use Rattle.flight_meaning.specs.Linked.{place_at, beside, first_place}
+use Rattle.flight_meaning.specs.Resolve.{property, to, found, Ends}
+use Rattle.flight_meaning.specs.Meaning.{Written, at_place, value_of, at_places, entry, both, entries, slots_in, map_token, set_token, HasSlots, HasShapeHere, Reference, reference_of, action_shape}
 use Rattle.flight_link.specs.declared.found.Spot.{Spot}
 use Rattle.flight_link.specs.declared.key.NodeKey.TheVariants as node_key
 use Rattle.flight_link.specs.declared.laid.Head.{Head}

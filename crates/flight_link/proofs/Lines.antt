@@ -12,9 +12,9 @@ use Rattle.flight_value.specs.declared.graph.Pair.{Pair}
 use Rattle.flight_value.specs.declared.graph.Node.{Node}
 use Rattle.flight_value.specs.Store as store
 use Rattle.flight_value.specs.Store.{label_of}
-use Rattle.flight_place.specs.declared.place.Named.{Named}
-use Rattle.flight_place.specs.declared.place.PlacedRow.{PlacedRow}
-use Rattle.flight_place.specs.Meaning.{Written}
+use Rattle.flight_meaning.specs.declared.place.Named.{Named}
+use Rattle.flight_meaning.specs.declared.place.PlacedRow.{PlacedRow}
+use Rattle.flight_meaning.specs.Meaning.{Written}
 use Rattle.flight_link.specs.declared.key.NodeKey.{NodeKey}
 use Rattle.flight_link.specs.declared.key.NodeKey.TheVariants.{Made, Promise, Action}
 use Rattle.flight_link.specs.declared.laid.Head.{Head}

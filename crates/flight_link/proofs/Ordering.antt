@@ -22,9 +22,9 @@ use Rattle.flight_graph.specs.Text.{text_of}
 use Rattle.flight_graph.specs.Walk.{named, named_by, slots_waiting}
 use Rattle.flight_graph.proofs.Ordered.{order_at, order_past, ordered_text}
 use Rattle.flight_graph.proofs.Walks.{passes, root_first, slots_more, visits}
-use Rattle.flight_place.specs.declared.place.PlacedRow.{PlacedRow}
-use Rattle.flight_place.specs.Meaning.{Written, value_of, Identity, HasShape, Leads, meaning}
-use Rattle.flight_place.proofs.OneMeaning.{leads_once, stands_once}
+use Rattle.flight_meaning.specs.declared.place.PlacedRow.{PlacedRow}
+use Rattle.flight_meaning.specs.Meaning.{Written, value_of, Identity, HasShape, Leads, meaning}
+use Rattle.flight_meaning.proofs.OneMeaning.{leads_once, stands_once}
 use Rattle.flight_link.specs.declared.key.NodeKey.{NodeKey}
 use Rattle.flight_link.specs.declared.key.NodeKey.TheVariants.{Made, Promise, Action}
 use Rattle.flight_link.specs.declared.numbers.Numbers.{Numbers}

@@ -4,7 +4,7 @@ use Rattle.std.specs.Prelude.{flat_map}
 use Rattle.std.proofs.lemmas.List.{take_more, length-take-le}
 use Rattle.std.proofs.lemmas.Bool.Decides.{nat_tests}
 use Rattle.std.proofs.lemmas.Grind.{flat_map-append}
-use Rattle.flight_place.specs.declared.place.Named.{Named}
+use Rattle.flight_meaning.specs.declared.place.Named.{Named}
 use Rattle.flight_graph.specs.Writing.{comma_before}
 use Rattle.flight_link.specs.declared.target.Target.{Target}
 use Rattle.flight_link.specs.Drafted.{Part, byte, plain, commas_parts, more_parts, pair_parts, prop_parts, with_names, in_twos}

@@ -6,14 +6,14 @@ use Rattle.std.proofs.lemmas.Bool.Decides.{nat_tests, Decides-eqb}
 use Rattle.std.proofs.lemmas.Option.{none-some, same_Some}
 use Rattle.flight_row.specs.declared.row.RowKind.{RowKind}
 use Rattle.flight_row.specs.declared.row.RowKind.TheVariants as row
-use Rattle.flight_place.specs.declared.place.Place.{Place}
-use Rattle.flight_place.specs.declared.place.PlaceTree.{PlaceTree}
-use Rattle.flight_place.specs.declared.place.PlacedRow.{PlacedRow}
-use Rattle.flight_place.specs.Linked as linked
-use Rattle.flight_place.specs.Linked.{is_of, rows_of, Standing, Verdict, goes, refused, absent, defined, twice, next, after, standing_of, FollowOn, place_at, first_place, beside}
-use Rattle.flight_place.specs.Resolve.{Path, to, here, on, turn}
-use Rattle.flight_place.proofs.Paths.{IsEnteredKind, IsEntered, entered_turn}
-use Rattle.flight_place.proofs.MoreRows.{rows_of-same, rows_of-other, slice_get-front}
+use Rattle.flight_meaning.specs.declared.place.Place.{Place}
+use Rattle.flight_meaning.specs.declared.place.PlaceTree.{PlaceTree}
+use Rattle.flight_meaning.specs.declared.place.PlacedRow.{PlacedRow}
+use Rattle.flight_meaning.specs.Linked as linked
+use Rattle.flight_meaning.specs.Linked.{is_of, rows_of, Standing, Verdict, goes, refused, absent, defined, twice, next, after, standing_of, FollowOn, place_at, first_place, beside}
+use Rattle.flight_meaning.specs.Resolve.{Path, to, here, on, turn}
+use Rattle.flight_meaning.proofs.Paths.{IsEnteredKind, IsEntered, entered_turn}
+use Rattle.flight_meaning.proofs.MoreRows.{rows_of-same, rows_of-other, slice_get-front}
 use Rattle.flight_link.specs.Adding.{is_of_stream}
 use Rattle.flight_link.specs.declared.found.Spot.{Spot}
 use Rattle.flight_link.specs.Nodes.{IsPlainOf, IsPlain, place_in, id_at, spot_of}

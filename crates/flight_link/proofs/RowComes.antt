@@ -6,13 +6,13 @@ use Rattle.std.proofs.lemmas.Bool.Decides.{eqb_tells}
 use Rattle.std.proofs.lemmas.List.{length-set}
 use Rattle.std.proofs.lemmas.List.Elements.{All-push}
 use Rattle.std.proofs.lemmas.Option.{none-some, same_Some, slice_get_within}
-use Rattle.flight_place.specs.declared.place.Place.{Place}
-use Rattle.flight_place.specs.declared.place.Place.TheVariants as place
-use Rattle.flight_place.specs.declared.place.PlacedRow.{PlacedRow}
-use Rattle.flight_place.specs.Linked as linked
-use Rattle.flight_place.specs.Linked.{rows_of, place_at, first_place}
-use Rattle.flight_place.specs.Resolve.{Path, to, here, on, go_from}
-use Rattle.flight_place.proofs.MoreRows.{rows_of-other, slice_get-front}
+use Rattle.flight_meaning.specs.declared.place.Place.{Place}
+use Rattle.flight_meaning.specs.declared.place.Place.TheVariants as place
+use Rattle.flight_meaning.specs.declared.place.PlacedRow.{PlacedRow}
+use Rattle.flight_meaning.specs.Linked as linked
+use Rattle.flight_meaning.specs.Linked.{rows_of, place_at, first_place}
+use Rattle.flight_meaning.specs.Resolve.{Path, to, here, on, go_from}
+use Rattle.flight_meaning.proofs.MoreRows.{rows_of-other, slice_get-front}
 use Rattle.flight_link.specs.declared.found.Spot.{Spot}
 use Rattle.flight_link.specs.declared.fresh.Fresh.{Fresh}
 use Rattle.flight_link.specs.declared.node.Start.{Start}

@@ -15,9 +15,9 @@ use Rattle.flight_graph.proofs.Drawn.{drawn_one_canon}
 use Rattle.flight_graph.proofs.Reached.{In, IsMet, Reaches, below_in, visited_reaches}
 use Rattle.flight_graph.proofs.Renamed.{canon_valid, met_place, slots_of-map_slots}
 use Rattle.flight_graph.proofs.Same.{in_at, label_of-map_slots, one_place}
-use Rattle.flight_place.specs.declared.place.PlacedRow.{PlacedRow}
-use Rattle.flight_place.specs.Meaning.{Written, value_of, Identity, meaning}
-use Rattle.flight_place.proofs.OneMeaning.{leads_once, stands_once}
+use Rattle.flight_meaning.specs.declared.place.PlacedRow.{PlacedRow}
+use Rattle.flight_meaning.specs.Meaning.{Written, value_of, Identity, meaning}
+use Rattle.flight_meaning.proofs.OneMeaning.{leads_once, stands_once}
 use Rattle.flight_link.specs.declared.key.NodeKey.{NodeKey}
 use Rattle.flight_link.specs.Drawing.{identity_of, key_of, origin_in, numbered_from, Draws, DrawsNode, AreDrawn, AreApart}
 use Rattle.flight_link.specs.Origins.{AreOrigins, origin_of}

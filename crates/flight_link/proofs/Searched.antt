@@ -12,8 +12,8 @@ use Rattle.std.specs.declared.cmp.Ordering.TheVariants.{Less, Equal, Greater}
 use Rattle.std.specs.Ordering.{nat_cmp, is_lt, is_eq, ordering_reverse}
 use Rattle.std.specs.Cmp.Lexicographic.{slice_cmp, nat_list_cmp_total, texts_ties, bytes_decides}
 use Rattle.flight_value.specs.Graph.{Ascend}
-use Rattle.flight_place.specs.declared.place.Named.{Named}
-use Rattle.flight_place.specs.Resolve.{property}
+use Rattle.flight_meaning.specs.declared.place.Named.{Named}
+use Rattle.flight_meaning.specs.Resolve.{property}
 
 abbrev names : List Named → List (List ℕ)
 names ps = map (λ (p : Named). p.name) ps

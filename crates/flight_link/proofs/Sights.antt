@@ -3,12 +3,12 @@ use Rattle.std.proofs.Common.{◌≡◌, ℕ, List, [], ◌∷◌, Some, refl, s
 use Rattle.std.proofs.lemmas.Option.{none-some, same_Some}
 use Rattle.flight_value.specs.Store as store
 use Rattle.flight_value.specs.Store.{Shape}
-use Rattle.flight_place.specs.declared.place.Place.{Place}
-use Rattle.flight_place.specs.declared.place.Place.TheVariants as place
-use Rattle.flight_place.specs.declared.place.PlacedRow.{PlacedRow}
-use Rattle.flight_place.specs.Linked as linked
-use Rattle.flight_place.specs.Linked.{place_at}
-use Rattle.flight_place.specs.Meaning.{Written, at_place, value_of, made_at, promise_of, action_of, HasShapeHere}
+use Rattle.flight_meaning.specs.declared.place.Place.{Place}
+use Rattle.flight_meaning.specs.declared.place.Place.TheVariants as place
+use Rattle.flight_meaning.specs.declared.place.PlacedRow.{PlacedRow}
+use Rattle.flight_meaning.specs.Linked as linked
+use Rattle.flight_meaning.specs.Linked.{place_at}
+use Rattle.flight_meaning.specs.Meaning.{Written, at_place, value_of, made_at, promise_of, action_of, HasShapeHere}
 use Rattle.flight_graph.specs.declared.label.Kind.{Kind}
 use Rattle.flight_graph.specs.declared.label.Kind.TheVariants as graph_kind
 use Rattle.flight_graph.specs.declared.label.Label.TheVariants as look

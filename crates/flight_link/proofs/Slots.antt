@@ -9,17 +9,17 @@ use Rattle.flight_value.specs.Store as store
 use Rattle.flight_value.specs.Store.{Label, Shape}
 use Rattle.flight_row.specs.declared.row.RowKind.{RowKind}
 use Rattle.flight_row.specs.declared.row.RowKind.TheVariants as kind
-use Rattle.flight_place.specs.declared.place.Named.{Named}
-use Rattle.flight_place.specs.declared.place.Place.{Place}
-use Rattle.flight_place.specs.declared.place.Place.TheVariants as place
-use Rattle.flight_place.specs.declared.place.PlaceTree.{PlaceTree}
-use Rattle.flight_place.specs.declared.place.PlacedRow.{PlacedRow}
-use Rattle.flight_place.specs.Linked as linked
-use Rattle.flight_place.specs.Linked.{rows_of, place_at, first_place}
+use Rattle.flight_meaning.specs.declared.place.Named.{Named}
+use Rattle.flight_meaning.specs.declared.place.Place.{Place}
+use Rattle.flight_meaning.specs.declared.place.Place.TheVariants as place
+use Rattle.flight_meaning.specs.declared.place.PlaceTree.{PlaceTree}
+use Rattle.flight_meaning.specs.declared.place.PlacedRow.{PlacedRow}
+use Rattle.flight_meaning.specs.Linked as linked
+use Rattle.flight_meaning.specs.Linked.{rows_of, place_at, first_place}
 use Rattle.flight_place.specs.Parts.{IsWithin}
-use Rattle.flight_place.specs.Resolve.{property, to, Found, found, stream, not_yet, nowhere}
-use Rattle.flight_place.specs.Meaning.{Written, at_place, value_of, at_places, Identity, made_at, promise_of, stream_of, action_of, pending, Leads, LeadsHere, IsTarget, HasShape, HasShapeHere, Token, map_token, set_token, token_label, HasSlots, slots_in, slots_found, entry, both, entries, Reference, text_at, bound_at, reference_with, reference_in, reference_by, reference_of, there, action_shape}
-use Rattle.flight_place.proofs.Walking.{one_end}
+use Rattle.flight_meaning.specs.Resolve.{property, to, Found, found, stream, not_yet, nowhere}
+use Rattle.flight_meaning.specs.Meaning.{Written, at_place, value_of, at_places, Identity, made_at, promise_of, stream_of, action_of, pending, Leads, LeadsHere, IsTarget, HasShape, HasShapeHere, Token, map_token, set_token, token_label, HasSlots, slots_in, slots_found, entry, both, entries, Reference, text_at, bound_at, reference_with, reference_in, reference_by, reference_of, there, action_shape}
+use Rattle.flight_meaning.proofs.Walking.{one_end}
 use Rattle.flight_link.specs.declared.found.Spot.{Spot}
 use Rattle.flight_link.specs.declared.node.State.{State}
 use Rattle.flight_link.specs.declared.node.State.TheVariants.{Ended}

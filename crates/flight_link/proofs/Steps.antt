@@ -5,7 +5,7 @@ use Rattle.std.specs.Fmt.{decimal}
 use Rattle.std.specs.Str.{bytes_eq}
 use Rattle.std.proofs.lemmas.Slice.Eq.{bytes_eq-Decides}
 use Rattle.std.proofs.lemmas.Fmt.{decimal_injective}
-use Rattle.flight_place.specs.Resolve.{item_from}
+use Rattle.flight_meaning.specs.Resolve.{item_from}
 
 -- two texts are one or are not
 pub apart : (xs ys : List ℕ) → xs ≢ ys → bytes_eq xs ys ≡ false

@@ -8,17 +8,17 @@ use Rattle.flight_value.specs.declared.graph.Atom.{Atom}
 use Rattle.flight_value.specs.declared.graph.Atom.TheVariants as atom
 use Rattle.flight_value.specs.Store as store
 use Rattle.flight_value.specs.Store.{Target as Aim}
-use Rattle.flight_place.specs.declared.place.Place.{Place}
-use Rattle.flight_place.specs.declared.place.Place.TheVariants as place
-use Rattle.flight_place.specs.declared.place.PlacedRow.{PlacedRow}
-use Rattle.flight_place.specs.Linked as linked
-use Rattle.flight_place.specs.Linked.{rows_of, place_at}
-use Rattle.flight_place.specs.Resolve.{Path, to, here, Found, found, not_yet, nowhere, Ends, Endless, LeadsNowhere}
-use Rattle.flight_place.specs.Meaning.{Written, at_place, value_of, Identity, made_at, promise_of, action_of, pending, stand_of, Leads, LeadsHere, TokenLeads, Token, map_token, set_token, slots_in, slots_found, Reference, reference_of}
-use Rattle.flight_place.specs.Good.{IsTokenDefined}
+use Rattle.flight_meaning.specs.declared.place.Place.{Place}
+use Rattle.flight_meaning.specs.declared.place.Place.TheVariants as place
+use Rattle.flight_meaning.specs.declared.place.PlacedRow.{PlacedRow}
+use Rattle.flight_meaning.specs.Linked as linked
+use Rattle.flight_meaning.specs.Linked.{rows_of, place_at}
+use Rattle.flight_meaning.specs.Resolve.{Path, to, here, Found, found, not_yet, nowhere, Ends, Endless, LeadsNowhere}
+use Rattle.flight_meaning.specs.Meaning.{Written, at_place, value_of, Identity, made_at, promise_of, action_of, pending, stand_of, Leads, LeadsHere, TokenLeads, Token, map_token, set_token, slots_in, slots_found, Reference, reference_of}
+use Rattle.flight_meaning.specs.Good.{IsTokenDefined}
 use Rattle.flight_place.specs.Parts.{IsTold}
-use Rattle.flight_place.proofs.Walking.{one_end, not_endless, ends_back, turn_ends}
-use Rattle.flight_place.proofs.Paths.{absent_turn}
+use Rattle.flight_meaning.proofs.Walking.{one_end, not_endless, ends_back, turn_ends}
+use Rattle.flight_meaning.proofs.Paths.{absent_turn}
 use Rattle.flight_link.specs.declared.found.Spot.{Spot}
 use Rattle.flight_link.specs.declared.node.Start.{Start}
 use Rattle.flight_link.specs.declared.node.Start.TheVariants.{Id, Place as AtPlace}

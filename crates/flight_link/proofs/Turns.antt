@@ -4,12 +4,12 @@ use Rattle.std.proofs.lemmas.List.{append-nil}
 use Rattle.flight_value.specs.declared.graph.Atom.TheVariants as atom
 use Rattle.flight_row.specs.declared.row.RowKind.{RowKind}
 use Rattle.flight_row.specs.declared.row.RowKind.TheVariants as row
-use Rattle.flight_place.specs.declared.place.Place.{Place}
-use Rattle.flight_place.specs.declared.place.Place.TheVariants as place
-use Rattle.flight_place.specs.declared.place.PlaceTree.{PlaceTree}
-use Rattle.flight_place.specs.declared.place.PlacedRow.{PlacedRow}
-use Rattle.flight_place.specs.Linked.{rows_of, Spot, place_at}
-use Rattle.flight_place.specs.Resolve.{Path, step, Stand, to, here, Found, found, not_yet, nowhere, Turn, on, ends, enter, go_to, go_down, go_on, go_from, turn}
+use Rattle.flight_meaning.specs.declared.place.Place.{Place}
+use Rattle.flight_meaning.specs.declared.place.Place.TheVariants as place
+use Rattle.flight_meaning.specs.declared.place.PlaceTree.{PlaceTree}
+use Rattle.flight_meaning.specs.declared.place.PlacedRow.{PlacedRow}
+use Rattle.flight_meaning.specs.Linked.{rows_of, Spot, place_at}
+use Rattle.flight_meaning.specs.Resolve.{Path, step, Stand, to, here, Found, found, not_yet, nowhere, Turn, on, ends, enter, go_to, go_down, go_on, go_from, turn}
 use Rattle.flight_link.specs.Nodes.{ComeBy, Come, IsThere, Reaches, with_path}
 
 -- ---- turns

@@ -3,7 +3,7 @@ use Rattle.std.proofs.Common.{◌≡◌, ℕ, zero, suc, Bool, true, false, ◌|
 use Rattle.std.specs.List.{list_any}
 use Rattle.std.proofs.lemmas.Bool.{false≢true}
 use Rattle.std.proofs.lemmas.Option.{none-some, same_Some}
-use Rattle.flight_place.specs.declared.place.Place.{Place}
+use Rattle.flight_meaning.specs.declared.place.Place.{Place}
 use Rattle.flight_link.specs.declared.fresh.Fresh.{Fresh}
 use Rattle.flight_link.specs.declared.node.Start.{Start}
 use Rattle.flight_link.specs.Nodes.{followed}

@@ -16,18 +16,18 @@ use Rattle.flight_value.specs.Store.{Label, Shape, Target, label_of, of_graph, D
 use Rattle.flight_row.specs.declared.row.RowKind.{RowKind}
 use Rattle.flight_text.specs.declared.mark.Ref.{Ref}
 use Rattle.flight_row.specs.declared.row.RowKind.TheVariants as row
-use Rattle.flight_place.specs.declared.place.Place.{Place}
-use Rattle.flight_place.specs.declared.place.Place.TheVariants as place
-use Rattle.flight_place.specs.declared.place.PlaceTree.{PlaceTree}
-use Rattle.flight_place.specs.declared.place.PlacedRow.{PlacedRow}
-use Rattle.flight_place.specs.Linked as linked
-use Rattle.flight_place.specs.Linked.{rows_of, place_at, beside, first_place}
+use Rattle.flight_meaning.specs.declared.place.Place.{Place}
+use Rattle.flight_meaning.specs.declared.place.Place.TheVariants as place
+use Rattle.flight_meaning.specs.declared.place.PlaceTree.{PlaceTree}
+use Rattle.flight_meaning.specs.declared.place.PlacedRow.{PlacedRow}
+use Rattle.flight_meaning.specs.Linked as linked
+use Rattle.flight_meaning.specs.Linked.{rows_of, place_at, beside, first_place}
 use Rattle.flight_place.specs.Parts.{HasOrder, HasValidAtom}
-use Rattle.flight_place.specs.Resolve.{property, here, Found, found, stream, not_yet, nowhere}
-use Rattle.flight_place.specs.Meaning as meaning
-use Rattle.flight_place.specs.Meaning.{Written, at_place, value_of, Identity, made_at, promise_of, stream_of, action_of, Token, Reference, text_at, bound_at, reference_with, reference_in, reference_by, reference_of, there, Flowed, opened, flowed, stream_shape, action_shape, HasShapeHere, HasShape, pending, TokenLeads, LeadsHere, IsTarget, Leads}
-use Rattle.flight_place.proofs.Walking.{turn_ends, stop_turn}
-use Rattle.flight_place.proofs.OneMeaning.{leads_once}
+use Rattle.flight_meaning.specs.Resolve.{property, here, Found, found, stream, not_yet, nowhere}
+use Rattle.flight_meaning.specs.Meaning as meaning
+use Rattle.flight_meaning.specs.Meaning.{Written, at_place, value_of, Identity, made_at, promise_of, stream_of, action_of, Token, Reference, text_at, bound_at, reference_with, reference_in, reference_by, reference_of, there, Flowed, opened, flowed, stream_shape, action_shape, HasShapeHere, HasShape, pending, TokenLeads, LeadsHere, IsTarget, Leads}
+use Rattle.flight_meaning.proofs.Walking.{turn_ends, stop_turn}
+use Rattle.flight_meaning.proofs.OneMeaning.{leads_once}
 use Rattle.flight_link.specs.declared.key.NodeKey.{NodeKey}
 use Rattle.flight_link.specs.Nodes.{IsFine}
 use Rattle.flight_link.specs.declared.draw.Drawing.{Drawing}

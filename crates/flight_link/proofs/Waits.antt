@@ -7,10 +7,10 @@ use Rattle.std.specs.Prelude.{◌||◌}
 use Rattle.std.proofs.lemmas.Bool.Decides.{eqb_tells}
 use Rattle.std.proofs.lemmas.Map.Steps.{length-le_from_distinct_below}
 use Rattle.std.proofs.lemmas.Option.{none-some, same_Some, slice_get_within}
-use Rattle.flight_place.specs.declared.place.PlacedRow.{PlacedRow}
-use Rattle.flight_place.specs.Resolve.{Path, Stand, to, Found, found, stream, not_yet, nowhere, ends, after_turn, walk_by, Ends, Endless}
-use Rattle.flight_place.proofs.Walking.{turn_forth, ends_back, turn_ends, endless_back}
-use Rattle.flight_place.proofs.Paths.{onward, front_by, endless-longer, absent_turn}
+use Rattle.flight_meaning.specs.declared.place.PlacedRow.{PlacedRow}
+use Rattle.flight_meaning.specs.Resolve.{Path, Stand, to, Found, found, stream, not_yet, nowhere, ends, after_turn, walk_by, Ends, Endless}
+use Rattle.flight_meaning.proofs.Walking.{turn_forth, ends_back, turn_ends, endless_back}
+use Rattle.flight_meaning.proofs.Paths.{onward, front_by, endless-longer, absent_turn}
 use Rattle.flight_link.specs.declared.node.Start.{Start}
 use Rattle.flight_link.specs.declared.node.Start.TheVariants.{Id, Place as AtPlace}
 use Rattle.flight_link.specs.declared.node.State.{State}

@@ -3,11 +3,11 @@ use Rattle.std.specs.Prelude.{ℕ, ◌≡◌, List, Bool, true, false, Some}
 use Rattle.flight_row.specs.declared.row.Row.{Row}
 use Rattle.flight_row.specs.declared.row.RowKind.{RowKind}
 use Rattle.flight_row.specs.declared.row.RowKind.TheVariants as row
-use Rattle.flight_place.specs.declared.place.Manner.{Manner}
-use Rattle.flight_place.specs.declared.place.PlaceTree.{PlaceTree}
-use Rattle.flight_place.specs.declared.place.PlacedRow.{PlacedRow}
+use Rattle.flight_place.specs.declared.manner.Manner.{Manner}
+use Rattle.flight_meaning.specs.declared.place.PlaceTree.{PlaceTree}
+use Rattle.flight_meaning.specs.declared.place.PlacedRow.{PlacedRow}
 use Rattle.flight_place.specs.Rows.{IsTree}
-use Rattle.flight_place.specs.Linked.{Standing, Verdict, goes, refused, twice, not_open, after_end, next, standing_of}
+use Rattle.flight_meaning.specs.Linked.{Standing, Verdict, goes, refused, twice, not_open, after_end, next, standing_of}
 use Rattle.flight_link.specs.declared.fault.LinkKind.{LinkKind}
 use Rattle.flight_link.specs.declared.fault.LinkKind.TheVariants as kind
 

@@ -1,9 +1,9 @@
 -- A text in which the numbers of some keys are still to come.
 use Rattle.std.specs.Prelude.{ℕ, ◌+◌, ◌≤◌, ◌≡◌, List, [], ◌∷◌, ◌++◌, length, map, take, drop, codes, flat_map}
 use Rattle.std.specs.List.{AllZip}
-use Rattle.flight_place.specs.declared.place.Named.{Named}
-use Rattle.flight_place.specs.declared.place.PlacedRow.{PlacedRow}
-use Rattle.flight_place.specs.Meaning.{value_of}
+use Rattle.flight_meaning.specs.declared.place.Named.{Named}
+use Rattle.flight_meaning.specs.declared.place.PlacedRow.{PlacedRow}
+use Rattle.flight_meaning.specs.Meaning.{value_of}
 use Rattle.flight_graph.specs.Text.{atom_text, number_text, string_text}
 use Rattle.flight_link.specs.declared.gap.Gap.{Gap}
 use Rattle.flight_link.specs.declared.key.NodeKey.{NodeKey}

@@ -1,10 +1,10 @@
 -- Where a reference leads, as an answer.
 use Rattle.std.specs.Prelude.{ℕ, ◌≡◌, ◌⊎◌, List}
 use Rattle.flight_text.specs.declared.mark.Ref.{Ref}
-use Rattle.flight_place.specs.declared.place.PlacedRow.{PlacedRow}
-use Rattle.flight_place.specs.Linked as linked
-use Rattle.flight_place.specs.Linked.{first_place}
-use Rattle.flight_place.specs.Resolve.{Path, to, found, stream, not_yet, Ends, LeadsNowhere}
+use Rattle.flight_meaning.specs.declared.place.PlacedRow.{PlacedRow}
+use Rattle.flight_meaning.specs.Linked as linked
+use Rattle.flight_meaning.specs.Linked.{first_place}
+use Rattle.flight_meaning.specs.Resolve.{Path, to, found, stream, not_yet, Ends, LeadsNowhere}
 use Rattle.flight_link.specs.declared.found.Found.{Found}
 use Rattle.flight_link.specs.declared.found.Found.TheVariants as answer
 use Rattle.flight_link.specs.Spots.{IsSpot}

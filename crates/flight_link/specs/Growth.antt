@@ -1,14 +1,14 @@
 -- How the table grows.
 use Rattle.std.specs.Prelude.{ℕ, false, ◌+◌, ◌≤◌, ◌≡◌, List, [], ◌++◌, length, slice_get, Option, Some, None, option_and_then}
-use Rattle.flight_place.specs.declared.place.Place.{Place}
-use Rattle.flight_place.specs.Resolve.{Path}
+use Rattle.flight_meaning.specs.declared.place.Place.{Place}
+use Rattle.flight_meaning.specs.Resolve.{Path}
 use Rattle.flight_link.specs.declared.found.Spot.{Spot}
 use Rattle.flight_link.specs.declared.node.Start.{Start}
 use Rattle.flight_link.specs.declared.node.Start.TheVariants.{Id, Place as AtPlace}
 use Rattle.flight_link.specs.declared.node.State.{State}
 use Rattle.flight_link.specs.declared.node.State.TheVariants.{Behind, Ended}
-use Rattle.flight_place.specs.declared.place.PlacedRow.{PlacedRow}
-use Rattle.flight_place.specs.Linked.{rows_of}
+use Rattle.flight_meaning.specs.declared.place.PlacedRow.{PlacedRow}
+use Rattle.flight_meaning.specs.Linked.{rows_of}
 use Rattle.flight_link.specs.Adding.{is_of_stream}
 use Rattle.flight_link.specs.declared.table.Table.{Table}
 use Rattle.flight_link.specs.declared.fresh.Fresh.{Fresh}

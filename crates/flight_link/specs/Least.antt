@@ -1,14 +1,14 @@
 -- The least id of a reference that is not defined.
 use Rattle.std.specs.Prelude.{ℕ, ◌≤◌, ◌≡◌, ◌||◌, ◌&&◌, codes, Bool, true, false, List, [], ◌∷◌, min, is_some, slice_get, Option, Some, None}
 use Rattle.flight_value.specs.declared.graph.Atom.TheVariants as atom
-use Rattle.flight_place.specs.declared.place.Place.{Place}
-use Rattle.flight_place.specs.declared.place.Place.TheVariants as place
-use Rattle.flight_place.specs.declared.place.PlacedRow.{PlacedRow}
-use Rattle.flight_place.specs.Meaning.{Token, slots_in, text_at}
-use Rattle.flight_place.specs.Resolve.{property}
+use Rattle.flight_meaning.specs.declared.place.Place.{Place}
+use Rattle.flight_meaning.specs.declared.place.Place.TheVariants as place
+use Rattle.flight_meaning.specs.declared.place.PlacedRow.{PlacedRow}
+use Rattle.flight_meaning.specs.Meaning.{Token, slots_in, text_at}
+use Rattle.flight_meaning.specs.Resolve.{property}
 use Rattle.flight_row.specs.declared.row.RowKind.{RowKind}
 use Rattle.flight_row.specs.declared.row.RowKind.TheVariants as kind
-use Rattle.flight_place.specs.Good.{id_of, IsDefined}
+use Rattle.flight_meaning.specs.Good.{id_of, IsDefined}
 use Rattle.flight_link.specs.declared.found.Spot.{Spot}
 use Rattle.flight_link.specs.Nodes.{place_in, spot_of, fails}
 

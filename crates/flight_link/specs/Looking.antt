@@ -4,12 +4,12 @@ use Rattle.flight_value.specs.declared.graph.Atom.{Atom}
 use Rattle.flight_value.specs.declared.graph.Atom.TheVariants as atom
 use Rattle.flight_value.specs.Store as store
 use Rattle.flight_value.specs.Store.{Label, Shape, Target}
-use Rattle.flight_place.specs.declared.place.Place.{Place}
-use Rattle.flight_place.specs.declared.place.Place.TheVariants as place
-use Rattle.flight_place.specs.declared.place.PlacedRow.{PlacedRow}
-use Rattle.flight_place.specs.Linked.{rows_of, Spot, place_at}
-use Rattle.flight_place.specs.Resolve.{Path, to, found, not_yet, Ends}
-use Rattle.flight_place.specs.Meaning.{Written, value_of, Identity, made_at, promise_of, stream_of, action_of, pending, stand_of, Leads, HasShape}
+use Rattle.flight_meaning.specs.declared.place.Place.{Place}
+use Rattle.flight_meaning.specs.declared.place.Place.TheVariants as place
+use Rattle.flight_meaning.specs.declared.place.PlacedRow.{PlacedRow}
+use Rattle.flight_meaning.specs.Linked.{rows_of, Spot, place_at}
+use Rattle.flight_meaning.specs.Resolve.{Path, to, found, not_yet, Ends}
+use Rattle.flight_meaning.specs.Meaning.{Written, value_of, Identity, made_at, promise_of, stream_of, action_of, pending, stand_of, Leads, HasShape}
 use Rattle.flight_graph.specs.declared.label.Label.TheVariants as look
 pub use Rattle.flight_graph.specs.Look.{kind_of}
 use Rattle.flight_link.specs.declared.found.Seen.{Seen}

@@ -1,8 +1,8 @@
 -- Marks: the numbers of places among all places, and of first mentions.
 use Rattle.std.specs.Prelude.{ℕ, ◌^◌, ◌<◌, ◌≤◌, ◌≡◌, ◌≢◌, List, length, take, slice_get, Option, Some, None}
-use Rattle.flight_place.specs.declared.place.Place.{Place}
-use Rattle.flight_place.specs.declared.place.Place.TheVariants as place
-use Rattle.flight_place.specs.declared.place.PlacedRow.{PlacedRow}
+use Rattle.flight_meaning.specs.declared.place.Place.{Place}
+use Rattle.flight_meaning.specs.declared.place.Place.TheVariants as place
+use Rattle.flight_meaning.specs.declared.place.PlacedRow.{PlacedRow}
 use Rattle.flight_link.specs.declared.mention.Mention.{Mention}
 use Rattle.flight_link.specs.declared.mention.Mention.TheVariants as mention
 use Rattle.flight_link.specs.declared.node.State.{State}

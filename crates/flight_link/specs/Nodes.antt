@@ -1,14 +1,14 @@
 -- The table of nodes: for each id and for each place that is followed, where its walk stands.
 use Rattle.std.specs.Prelude.{ℕ, zero, suc, ◌-◌, ◌<◌, ◌≤◌, ◌≡◌, Bool, true, false, List, [], ◌∷◌, ◌++◌, length, drop, slice_get, Option, Some, None, option_and_then, option_map, unwrap_or, All}
 use Rattle.flight_value.specs.declared.graph.Atom.TheVariants as atom
-use Rattle.flight_place.specs.declared.place.Place.{Place}
-use Rattle.flight_place.specs.declared.place.Place.TheVariants as place
-use Rattle.flight_place.specs.declared.place.PlaceTree.{PlaceTree}
-use Rattle.flight_place.specs.declared.place.PlacedRow.{PlacedRow}
-use Rattle.flight_place.specs.Linked as linked
-use Rattle.flight_place.specs.Linked.{rows_of, place_at, first_place}
+use Rattle.flight_meaning.specs.declared.place.Place.{Place}
+use Rattle.flight_meaning.specs.declared.place.Place.TheVariants as place
+use Rattle.flight_meaning.specs.declared.place.PlaceTree.{PlaceTree}
+use Rattle.flight_meaning.specs.declared.place.PlacedRow.{PlacedRow}
+use Rattle.flight_meaning.specs.Linked as linked
+use Rattle.flight_meaning.specs.Linked.{rows_of, place_at, first_place}
 use Rattle.flight_place.specs.Parts.{IsWithin, HasOrder, IsTold, HasValidAtom}
-use Rattle.flight_place.specs.Resolve.{Path, Stand, to, here, found, nowhere, Turn, on, ends, turn}
+use Rattle.flight_meaning.specs.Resolve.{Path, Stand, to, here, found, nowhere, Turn, on, ends, turn}
 use Rattle.flight_link.specs.Adding.{is_of_stream}
 use Rattle.flight_link.specs.declared.found.Spot.{Spot}
 use Rattle.flight_link.specs.declared.node.Start.{Start}

@@ -1,8 +1,8 @@
 -- Keys of nodes under numbers.
 use Rattle.std.specs.Prelude.{ℕ, nat_eq, ◌+◌, ◌≤◌, ◌≡◌, ◌≢◌, List, ◌++◌, length, take, slice_get, Option, Some, None}
 use Rattle.std.specs.HashMap.{get}
-use Rattle.flight_place.specs.declared.place.Place.{Place}
-use Rattle.flight_place.specs.declared.place.PlacedRow.{PlacedRow}
+use Rattle.flight_meaning.specs.declared.place.Place.{Place}
+use Rattle.flight_meaning.specs.declared.place.PlacedRow.{PlacedRow}
 use Rattle.flight_link.specs.declared.found.Spot.{Spot}
 use Rattle.flight_link.specs.declared.key.NodeKey.{NodeKey}
 use Rattle.flight_link.specs.declared.key.NodeKey.TheVariants.{Made, Promise, Action}

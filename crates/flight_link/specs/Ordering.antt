@@ -6,8 +6,8 @@ use Rattle.flight_value.specs.declared.graph.Node.{Node}
 use Rattle.flight_graph.specs.Canon.{visited_of, walk}
 use Rattle.flight_graph.specs.Ordered.{in_order}
 use Rattle.flight_graph.specs.Walk.{slots_waiting}
-use Rattle.flight_place.specs.declared.place.PlacedRow.{PlacedRow}
-use Rattle.flight_place.specs.Meaning.{value_of}
+use Rattle.flight_meaning.specs.declared.place.PlacedRow.{PlacedRow}
+use Rattle.flight_meaning.specs.Meaning.{value_of}
 use Rattle.flight_link.specs.declared.key.NodeKey.{NodeKey}
 use Rattle.flight_link.specs.declared.key.NodeKey.TheVariants.{Made, Promise, Action}
 use Rattle.flight_link.specs.declared.laid.Head.{Head}

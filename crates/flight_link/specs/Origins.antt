@@ -4,8 +4,8 @@ use Rattle.flight_value.specs.Graph.{IsValid}
 use Rattle.flight_value.specs.Store.{Fits, Paired, of_graph}
 use Rattle.flight_value.specs.declared.graph.Graph.{Graph}
 use Rattle.flight_graph.specs.Canon.{canon_of}
-use Rattle.flight_place.specs.declared.place.PlacedRow.{PlacedRow}
-use Rattle.flight_place.specs.Meaning.{Identity, made_at, promise_of, stream_of, action_of, meaning}
+use Rattle.flight_meaning.specs.declared.place.PlacedRow.{PlacedRow}
+use Rattle.flight_meaning.specs.Meaning.{Identity, made_at, promise_of, stream_of, action_of, meaning}
 
 -- the id of the row that holds a node: of its place, and of a promise, a stream or a server reference its own
 abbrev pub origin_of : Identity → ℕ

@@ -2,11 +2,11 @@
 use Rattle.std.specs.Prelude.{ℕ, ◌≡◌, List, [], ◌∷◌, slice_get, Option, Some, None, option_map}
 use Rattle.flight_value.specs.Store.{Label, Shape}
 use Rattle.flight_text.specs.declared.mark.Ref.{Ref}
-use Rattle.flight_place.specs.declared.place.Place.{Place}
-use Rattle.flight_place.specs.declared.place.Place.TheVariants as place
-use Rattle.flight_place.specs.declared.place.PlacedRow.{PlacedRow}
-use Rattle.flight_place.specs.Resolve.{property}
-use Rattle.flight_place.specs.Meaning.{Written, at_place, Identity, HasShape, Token, HasSlots, slots_in, Reference, reference_of}
+use Rattle.flight_meaning.specs.declared.place.Place.{Place}
+use Rattle.flight_meaning.specs.declared.place.Place.TheVariants as place
+use Rattle.flight_meaning.specs.declared.place.PlacedRow.{PlacedRow}
+use Rattle.flight_meaning.specs.Resolve.{property}
+use Rattle.flight_meaning.specs.Meaning.{Written, at_place, Identity, HasShape, Token, HasSlots, slots_in, Reference, reference_of}
 use Rattle.flight_graph.specs.declared.label.Kind.{Kind}
 use Rattle.flight_graph.specs.declared.label.Kind.TheVariants as graph_kind
 use Rattle.flight_graph.specs.declared.label.Label.TheVariants as look

@@ -3,12 +3,12 @@ use Rattle.std.specs.Prelude.{ℕ, ◌≡◌, ◌≢◌, List, Option, Some, Non
 use Rattle.flight_text.specs.declared.mark.Ref.{Ref}
 use Rattle.flight_value.specs.declared.graph.Atom.TheVariants as atom
 use Rattle.flight_value.specs.Store as store
-use Rattle.flight_place.specs.declared.place.Place.{Place}
-use Rattle.flight_place.specs.declared.place.Place.TheVariants as place
-use Rattle.flight_place.specs.declared.place.PlacedRow.{PlacedRow}
-use Rattle.flight_place.specs.Linked as linked
-use Rattle.flight_place.specs.Resolve.{Path, to, found, not_yet, Ends, LeadsNowhere}
-use Rattle.flight_place.specs.Meaning.{Written, at_place, value_of, made_at, promise_of, action_of, pending, stand_of, Leads, Token, map_token, set_token}
+use Rattle.flight_meaning.specs.declared.place.Place.{Place}
+use Rattle.flight_meaning.specs.declared.place.Place.TheVariants as place
+use Rattle.flight_meaning.specs.declared.place.PlacedRow.{PlacedRow}
+use Rattle.flight_meaning.specs.Linked as linked
+use Rattle.flight_meaning.specs.Resolve.{Path, to, found, not_yet, Ends, LeadsNowhere}
+use Rattle.flight_meaning.specs.Meaning.{Written, at_place, value_of, made_at, promise_of, action_of, pending, stand_of, Leads, Token, map_token, set_token}
 use Rattle.flight_link.specs.declared.found.Spot.{Spot}
 use Rattle.flight_link.specs.declared.node.Start.{Start}
 use Rattle.flight_link.specs.declared.node.Start.TheVariants.{Id, Place as AtPlace}

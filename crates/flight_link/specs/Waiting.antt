@@ -1,8 +1,8 @@
 -- Walks that have not ended.
 use Rattle.std.specs.Prelude.{ℕ, ◌≡◌, false, List, [], Option, Some, None}
-use Rattle.flight_place.specs.declared.place.PlacedRow.{PlacedRow}
-use Rattle.flight_place.specs.Linked.{rows_of}
-use Rattle.flight_place.specs.Resolve.{Path, Stand, to, Found, found, not_yet, nowhere, Ends, Endless}
+use Rattle.flight_meaning.specs.declared.place.PlacedRow.{PlacedRow}
+use Rattle.flight_meaning.specs.Linked.{rows_of}
+use Rattle.flight_meaning.specs.Resolve.{Path, Stand, to, Found, found, not_yet, nowhere, Ends, Endless}
 use Rattle.flight_link.specs.declared.node.Start.{Start}
 use Rattle.flight_link.specs.declared.node.Start.TheVariants.{Id, Place as AtPlace}
 use Rattle.flight_link.specs.declared.node.State.{State}

@@ -1,5 +1,5 @@
 ghost use Rattle.std.specs.Prelude.{IfOk, ◌+◌, ◌≡◌, ◌++◌, ◌∷◌, [], ◌<◌, false, length, slice_set, OnOk, OnErr};
-ghost use Rattle.flight_place.specs.Linked.{rows_of};
+ghost use Rattle.flight_meaning.specs.Linked.{rows_of};
 ghost use Rattle.flight_link.specs.Adding.{is_of_stream};
 ghost use Rattle.flight_link.specs.Nodes.{IsTable, AreStates, AreQuiet, IsFine};
 ghost use Rattle.flight_link.specs.Backlogs.{AreBegun, IsAtRest, IsSettled};
@@ -14,7 +14,8 @@ use crate::ids::Known;
 use crate::node::State;
 use crate::room::{append_last, put_last};
 use crate::table::{Table, node_at};
-use flight_place::PlacedRow;
+use crate::unproved::unproved;
+use flight_meaning::PlacedRow;
 use flight_value::{List, Memory};
 use std::alloc::Global;
 use std::ops::Range;
@@ -94,7 +95,7 @@ impl Table {
         ensures listed { (backlog : Backlog) → AreQuiet states.old.items → IsAtRest states.old.items backlog → OnOk result (AreBegun (length states.old.items) node states.new.items backlog) }
     {
         let Ok(number) = u32::try_from(self.rows.len()) else {
-            return Err(Memory);
+            return Err(unproved());
         };
         self.rows.reserve(1)?;
         self.index.reserve(1)?;
@@ -125,10 +126,10 @@ fn numbers(count: usize, more: usize) -> Result<Range<u32>, Memory>
     ensures { IfOk result (λ r. (r.start ≡ count) × (r.end ≡ count + more)) }
 {
     let Ok(start) = u32::try_from(count) else {
-        return Err(Memory);
+        return Err(unproved());
     };
     let Ok(end) = u32::try_from(count.saturating_add(more)) else {
-        return Err(Memory);
+        return Err(unproved());
     };
     Ok(start..end)
 }

@@ -1,6 +1,6 @@
 ghost use Rattle.std.specs.Prelude.{◌≡◌, slice_get, option_map, Some};
-ghost use Rattle.flight_place.specs.declared.place.Place.{Place};
-ghost use Rattle.flight_place.specs.Meaning.{made_at, map_token, set_token};
+ghost use Rattle.flight_meaning.specs.declared.place.Place.{Place};
+ghost use Rattle.flight_meaning.specs.Meaning.{made_at, map_token, set_token};
 ghost use Rattle.flight_link.specs.Slots.{number_in as number_of_slot, beside as spot_beside, item_at, property_at, IsSlotAt, IsThere, IsTokenSlot, IsEntrySlot, IsBound, IsBelowTarget, IsTargetOfSome};
 ghost use Rattle.flight_link.specs.Nodes.{AreLinked, IsTable, place_in, spot_of};
 
@@ -9,7 +9,7 @@ use crate::node::State;
 use crate::step::{number_at, property_of};
 use crate::table::Table;
 use crate::target::Target;
-use flight_place::{Named, Place};
+use flight_meaning::{Named, Place};
 use flight_text::Ref;
 
 /// What stands in a slot below another.

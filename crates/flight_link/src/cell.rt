@@ -1,5 +1,6 @@
 ghost use Rattle.std.specs.Prelude.{◌≡◌, ◌+◌, ◌<◌, ◌^◌, IfOk, None, Some};
 
+use crate::unproved::unproved;
 use flight_value::Memory;
 use std::alloc::AllocError;
 use std::marker::Model;
@@ -50,7 +51,7 @@ impl Cell {
     {
         match number.checked_add(1) {
             Some(held) => Ok(Cell { held }),
-            None => Err(Memory),
+            None => Err(unproved()),
         }
     }
 

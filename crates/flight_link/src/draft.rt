@@ -5,6 +5,7 @@ ghost use Rattle.flight_link.specs.Drafted.{Fits, byte, number, parts, plain};
 
 use crate::gap::Gap;
 use crate::key::NodeKey;
+use crate::unproved::unproved;
 use flight_graph::{Writer, write_atom, write_comma, write_number, write_string};
 use flight_value::{Atom, Memory};
 use std::alloc::Global;
@@ -99,7 +100,7 @@ impl Draft {
     {
         let len = self.text.count()?;
         let Ok(before) = u32::try_from(len - self.passed) else {
-            return Err(Memory);
+            return Err(unproved());
         };
         self.gaps.push(Gap { before, key })?;
         self.passed = len;

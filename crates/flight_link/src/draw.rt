@@ -1,10 +1,10 @@
 ghost use Rattle.std.specs.Prelude.{◌≡◌, ◌<◌, ◌^◌, ◌∷◌, [], IfOk, IfSome, OnOk, length, true, Some};
-ghost use Rattle.flight_place.specs.declared.place.Place.TheVariants as place;
-ghost use Rattle.flight_place.specs.Linked.{beside as place_beside, first_place};
+ghost use Rattle.flight_meaning.specs.declared.place.Place.TheVariants as place;
+ghost use Rattle.flight_meaning.specs.Linked.{beside as place_beside, first_place};
 ghost use Rattle.flight_value.specs.Graph.{IsValid};
 ghost use Rattle.flight_value.specs.Store as store;
 ghost use Rattle.flight_value.specs.Store.{DrawOneGraph, of_graph};
-ghost use Rattle.flight_place.specs.Meaning.{meaning, Leads, Written, at_place, made_at, action_of};
+ghost use Rattle.flight_meaning.specs.Meaning.{meaning, Leads, Written, at_place, made_at, action_of};
 ghost use Rattle.flight_link.specs.Marks.{AreBases, IsWhole};
 ghost use Rattle.flight_link.specs.Nodes.{IsTable, place_in, spot_of};
 ghost use Rattle.flight_link.specs.Slots.{IsTargetOfSome};
@@ -21,7 +21,8 @@ use crate::numbers::Numbers;
 use crate::step::property_of;
 use crate::table::Table;
 use crate::target::Target;
-use flight_place::{Named, Place};
+use crate::unproved::unproved;
+use flight_meaning::{Named, Place};
 use flight_text::Ref;
 use flight_value::{Atom, Graph, List, Memory, Node, Pair, Prop, Slot};
 use std::alloc::Global;
@@ -88,7 +89,7 @@ impl Table {
             };
             nodes.push(self.node_of(whole, alloc, numbers, key)?)?;
         }
-        Err(Memory)
+        Err(unproved())
     }
 
     /// The node of a key.
@@ -142,7 +143,7 @@ impl Table {
             }
             Some(Place::Map(at)) => self.map(whole, alloc, numbers, spot, at),
             Some(Place::Set(at)) => self.set(whole, alloc, numbers, spot, at),
-            _ => Err(Memory),
+            _ => Err(unproved()),
         }
     }
 
@@ -226,10 +227,10 @@ impl Table {
     {
         let State::Ended(end) = self.resolve(whole.states, reference.id, reference.path.as_slice())
         else {
-            return Err(Memory);
+            return Err(unproved());
         };
         let Some(Place::Array(places)) = self.place(end) else {
-            return Err(Memory);
+            return Err(unproved());
         };
         let pairs = self.pairs(whole, alloc, numbers, end, places.as_slice())?;
         within_half(pairs.len())?;
@@ -254,10 +255,10 @@ impl Table {
     {
         let State::Ended(end) = self.resolve(whole.states, reference.id, reference.path.as_slice())
         else {
-            return Err(Memory);
+            return Err(unproved());
         };
         let Some(Place::Array(places)) = self.place(end) else {
-            return Err(Memory);
+            return Err(unproved());
         };
         let slots = self.slots(whole, alloc, numbers, end, places.as_slice())?;
         within(slots.len())?;
@@ -274,22 +275,22 @@ impl Table {
         ensures node { IfOk result (DrawsNode self.now.rows.items numbers.new.keys.items (action_of id)) }
     {
         if !self.has_reference(id) {
-            return Err(Memory);
+            return Err(unproved());
         }
         let Some(spot) = self.root_of(id) else {
-            return Err(Memory);
+            return Err(unproved());
         };
         let Some(Place::Object(props)) = self.place(spot) else {
-            return Err(Memory);
+            return Err(unproved());
         };
         let Some(name) = property_of(props.as_slice(), "id") else {
-            return Err(Memory);
+            return Err(unproved());
         };
         let Some(bound) = property_of(props.as_slice(), "bound") else {
-            return Err(Memory);
+            return Err(unproved());
         };
         let Some(Place::Atom(Atom::Text(text))) = self.place(beside(spot, name)) else {
-            return Err(Memory);
+            return Err(unproved());
         };
         let bound = self.slot_beside(whole, numbers, spot, bound)?;
         Ok(Node::Action {
@@ -407,7 +408,7 @@ impl Table {
         ensures pair { IfOk result (λ pair. IsPairAt self.now.rows.items numbers.new.keys.items (spot_of self.now.rows.items spot) pair place) }
     {
         let Some((key, value)) = self.two_at(beside(spot, place)) else {
-            return Err(Memory);
+            return Err(unproved());
         };
         let key = self.slot_beside(whole, numbers, spot, key)?;
         let value = self.slot_beside(whole, numbers, spot, value)?;
@@ -430,7 +431,7 @@ impl Table {
     {
         let at = beside(spot, place);
         let Some(written) = self.place(at) else {
-            return Err(Memory);
+            return Err(unproved());
         };
         let target = self.target_written(whole.states, at, written);
         self.slot_to(whole.bases, numbers, target)
@@ -493,5 +494,5 @@ fn beside(spot: Spot, place: u32) -> Spot
 fn within_half(count: usize) -> Result<(), Memory>
     ensures { OnOk result (count < 2 ^ 31) }
 {
-    if count < 1 << 31 { Ok(()) } else { Err(Memory) }
+    if count < 1 << 31 { Ok(()) } else { Err(unproved()) }
 }

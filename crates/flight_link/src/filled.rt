@@ -11,6 +11,7 @@ use crate::gap::Gap;
 use crate::mention::Bases;
 use crate::numbers::Numbers;
 use crate::table::Table;
+use crate::unproved::unproved;
 use flight_graph::{Writer, write_number};
 use flight_value::{Memory, Text};
 use std::alloc::Global;
@@ -80,7 +81,7 @@ impl Table {
         out.push_bytes(piece)?;
         match self.number_of(bases, numbers, gap.key) {
             Some(number) => write_number(out, number as usize)?,
-            None => return Err(Memory),
+            None => return Err(unproved()),
         }
         Ok(rest)
     }

@@ -1,6 +1,6 @@
 ghost use Rattle.std.specs.Prelude.{◌≡◌, ◌++◌, ◌∷◌, [], List, length, is_some, IfOk, OnOk};
 ghost use Rattle.std.specs.List.{list_any};
-ghost use Rattle.flight_place.specs.declared.place.Place.{Place};
+ghost use Rattle.flight_meaning.specs.declared.place.Place.{Place};
 ghost use Rattle.flight_link.specs.declared.backlog.Backlog.{Backlog};
 ghost use Rattle.flight_link.specs.Backlogs.{IsAtRest};
 ghost use Rattle.flight_link.specs.Nodes.{IsTable, AreStates, AreQuiet, followed};
@@ -12,7 +12,8 @@ use crate::found::Spot;
 use crate::node::{Start, State};
 use crate::step::walk_of;
 use crate::table::Table;
-use flight_place::Place;
+use crate::unproved::unproved;
+use flight_meaning::Place;
 use flight_value::Memory;
 use std::alloc::Global;
 
@@ -60,7 +61,7 @@ impl Table {
         }
         self.name_all(states, places)?;
         let Ok(row) = u32::try_from(self.rows.len()) else {
-            return Err(Memory);
+            return Err(unproved());
         };
         self.fresh(alloc, row, places)
     }
@@ -73,7 +74,7 @@ impl Table {
         let mut fresh = Fresh::none(alloc);
         for (number, place) in places.iter().enumerate() {
             let Ok(number) = u32::try_from(number) else {
-                return Err(Memory);
+                return Err(unproved());
             };
             self.add_fresh(&mut fresh, Spot { row, place: number }, place)?;
         }
@@ -89,10 +90,10 @@ impl Table {
         };
         // Each id that is named has a node by now.
         let Some(known) = self.known.get(id) else {
-            return Err(Memory);
+            return Err(unproved());
         };
         let Ok(number) = u32::try_from(self.starts.len().saturating_add(fresh.starts.len())) else {
-            return Err(Memory);
+            return Err(unproved());
         };
         reach(&mut fresh.index, spot.place as usize)?;
         fresh.index.push(Cell::try_of(number)?)?;

@@ -1,7 +1,7 @@
 ghost use Rattle.std.specs.Prelude.{◌≡◌, ◌<◌, ◌^◌, ◌∷◌, [], IfOk, OnOk, IfSome, Some, map, slice_get};
-ghost use Rattle.flight_place.specs.declared.place.Place.TheVariants as place;
-ghost use Rattle.flight_place.specs.Linked.{beside as place_beside};
-ghost use Rattle.flight_place.specs.Meaning.{at_place, at_places};
+ghost use Rattle.flight_meaning.specs.declared.place.Place.TheVariants as place;
+ghost use Rattle.flight_meaning.specs.Linked.{beside as place_beside};
+ghost use Rattle.flight_meaning.specs.Meaning.{at_place, at_places};
 ghost use Rattle.flight_link.specs.declared.key.NodeKey.TheVariants as node_key;
 ghost use Rattle.flight_link.specs.Marks.{IsWhole};
 ghost use Rattle.flight_link.specs.Nodes.{AreLinked, place_in, spot_of};
@@ -15,7 +15,8 @@ use crate::node::State;
 use crate::step::property_of;
 use crate::table::{Table, place_at, row_at};
 use crate::target::Target;
-use flight_place::{Named, Place};
+use crate::unproved::unproved;
+use flight_meaning::{Named, Place};
 use flight_text::Ref;
 use flight_value::{Atom, Memory, Text};
 
@@ -64,7 +65,7 @@ impl Table {
         ensures { IfOk result (λ head. IsLaid self.now.rows.items (node_key.Made spot) head targets.new.items) }
     {
         let Some(places) = self.places_of(spot.row) else {
-            return Err(Memory);
+            return Err(unproved());
         };
         match place_at(places, spot.place as usize) {
             Some(Place::Array(numbers)) => {
@@ -78,7 +79,7 @@ impl Table {
             }
             Some(Place::Map(reference)) => self.lay_map(states, spot, reference, targets),
             Some(Place::Set(reference)) => self.lay_set(states, spot, reference, targets),
-            _ => Err(Memory),
+            _ => Err(unproved()),
         }
     }
 
@@ -154,13 +155,13 @@ impl Table {
         ensures { IfOk result (λ head. IsLaid self.now.rows.items (node_key.Made spot) head targets.new.items) }
     {
         let State::Ended(end) = self.resolve(states, reference.id, reference.path.as_slice()) else {
-            return Err(Memory);
+            return Err(unproved());
         };
         let Some(places) = self.places_of(end.row) else {
-            return Err(Memory);
+            return Err(unproved());
         };
         let Some(Place::Array(numbers)) = place_at(places, end.place as usize) else {
-            return Err(Memory);
+            return Err(unproved());
         };
         self.push_entries(states, end, places, numbers.as_slice(), targets)?;
         within(targets.len())?;
@@ -181,13 +182,13 @@ impl Table {
         ensures { IfOk result (λ head. IsLaid self.now.rows.items (node_key.Made spot) head targets.new.items) }
     {
         let State::Ended(end) = self.resolve(states, reference.id, reference.path.as_slice()) else {
-            return Err(Memory);
+            return Err(unproved());
         };
         let Some(places) = self.places_of(end.row) else {
-            return Err(Memory);
+            return Err(unproved());
         };
         let Some(Place::Array(numbers)) = place_at(places, end.place as usize) else {
-            return Err(Memory);
+            return Err(unproved());
         };
         self.push_slots(states, end, places, numbers.as_slice(), targets)?;
         within(targets.len())?;
@@ -221,25 +222,25 @@ impl Table {
         ensures { IfOk result (λ head. IsLaid self.now.rows.items (node_key.Action id) head targets.new.items) }
     {
         if !self.has_reference(id) {
-            return Err(Memory);
+            return Err(unproved());
         }
         let Some(spot) = self.root_of(id) else {
-            return Err(Memory);
+            return Err(unproved());
         };
         let Some(places) = self.places_of(spot.row) else {
-            return Err(Memory);
+            return Err(unproved());
         };
         let Some(Place::Object(props)) = place_at(places, spot.place as usize) else {
-            return Err(Memory);
+            return Err(unproved());
         };
         let Some(name) = property_of(props.as_slice(), "id") else {
-            return Err(Memory);
+            return Err(unproved());
         };
         let Some(bound) = property_of(props.as_slice(), "bound") else {
-            return Err(Memory);
+            return Err(unproved());
         };
         let Some(Place::Atom(Atom::Text(text))) = place_at(places, name as usize) else {
-            return Err(Memory);
+            return Err(unproved());
         };
         self.push_slots(states, spot, places, &[bound], targets)?;
         Ok(Head::Action(text))
@@ -330,7 +331,7 @@ impl Table {
         ensures { OnOk result (AddsEntries self.now.rows.items (spot_of self.now.rows.items spot) (number ∷ []) targets.old.items targets.new.items) }
     {
         let Some((key, value)) = two_at(places, number) else {
-            return Err(Memory);
+            return Err(unproved());
         };
         self.push_slots(states, spot, places, &[key, value], targets)
     }
@@ -355,7 +356,7 @@ impl Table {
                 };
                 Ok(self.target_written(states, at, place))
             }
-            None => Err(Memory),
+            None => Err(unproved()),
         }
     }
 }
@@ -379,6 +380,6 @@ pub fn within(count: usize) -> Result<(), Memory>
 {
     match u32::try_from(count) {
         Ok(_) => Ok(()),
-        Err(_) => Err(Memory),
+        Err(_) => Err(unproved()),
     }
 }

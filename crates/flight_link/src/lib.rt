@@ -2,7 +2,7 @@
 //!
 //! [`Links`] takes the rows of a stream or of a reply with their places, one after another, and refuses a row that
 //! may not follow those of its id. Contracts see it as the list of the rows that came. What a reference leads to, and
-//! what the rows mean as a whole, is said in `flight_place` (`Resolve.antt`, `Meaning.antt`, `Good.antt`); this crate's
+//! what the rows mean as a whole, is said in `flight_meaning` (`Resolve.antt`, `Meaning.antt`, `Good.antt`); this crate's
 //! `specs/` say what each call answers in these terms (React 19.0, `getOutlinedModel`, `resolveModelChunk` of
 //! ReactFlightClient).
 //!
@@ -43,6 +43,7 @@ mod target;
 mod tests;
 mod text;
 mod undefined;
+mod unproved;
 
 pub use fault::{LinkFault, LinkKind};
 pub use found::{Found, Seen, Spot};

@@ -4,9 +4,9 @@ ghost use Rattle.flight_value.specs.Graph.{IsValid};
 ghost use Rattle.flight_value.specs.Store.{DrawOneGraph, of_graph};
 ghost use Rattle.flight_value.specs.declared.graph.Graph.{Graph};
 ghost use Rattle.flight_graph.specs.Text.{text_of};
-ghost use Rattle.flight_place.specs.Meaning.{meaning};
-ghost use Rattle.flight_place.specs.Linked.{rows_of, FollowOn};
-ghost use Rattle.flight_place.specs.Good.{IsLeastUndefined};
+ghost use Rattle.flight_meaning.specs.Meaning.{meaning};
+ghost use Rattle.flight_meaning.specs.Linked.{rows_of, FollowOn};
+ghost use Rattle.flight_meaning.specs.Good.{IsLeastUndefined};
 ghost use Rattle.flight_link.specs.declared.fault.LinkKind.{LinkKind};
 ghost use Rattle.flight_link.specs.Adding.{is_of_stream as is_of_stream_spec, IsPlaced, MayFollow, IsRefused};
 ghost use Rattle.flight_link.specs.Finding.{IsFound};
@@ -21,7 +21,7 @@ use crate::mention::Bases;
 use crate::node::State;
 use crate::room::put_last;
 use crate::table::Table;
-use flight_place::{PlaceTree, PlacedRow};
+use flight_meaning::{PlaceTree, PlacedRow};
 use flight_row::RowKind;
 use flight_text::Ref;
 use flight_value::{Graph, List, Memory, Text};
@@ -44,7 +44,7 @@ pub struct Links {
 
 impl Model for Links {
     ghost use Rattle.std.specs.Prelude.{List};
-    ghost use Rattle.flight_place.specs.declared.place.PlacedRow.{PlacedRow};
+    ghost use Rattle.flight_meaning.specs.declared.place.PlacedRow.{PlacedRow};
     ghost use Rattle.flight_link.specs.Backlogs.{IsAtRest};
     ghost use Rattle.flight_link.specs.Marks.{IsWhole};
 

@@ -11,7 +11,7 @@ use crate::node::State;
 use crate::table::Table;
 use crate::target::Target;
 use flight_graph::{Kind, Label};
-use flight_place::Place;
+use flight_meaning::Place;
 
 impl Table {
     /// What a path from the root shows.

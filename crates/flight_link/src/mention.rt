@@ -1,9 +1,9 @@
 ghost use Rattle.std.specs.Prelude.{ℕ, ◌≡◌, ◌+◌, ◌<◌, ◌↔◌, IsTrue, length, take, slice_get, Some};
-ghost use Rattle.flight_place.specs.declared.place.Place.{Place};
-ghost use Rattle.flight_place.specs.declared.place.Place.TheVariants as the_place;
-ghost use Rattle.flight_place.specs.declared.place.PlacedRow.{PlacedRow};
-ghost use Rattle.flight_place.specs.Linked as linked;
-ghost use Rattle.flight_place.specs.Linked.{place_at};
+ghost use Rattle.flight_meaning.specs.declared.place.Place.{Place};
+ghost use Rattle.flight_meaning.specs.declared.place.Place.TheVariants as the_place;
+ghost use Rattle.flight_meaning.specs.declared.place.PlacedRow.{PlacedRow};
+ghost use Rattle.flight_meaning.specs.Linked as linked;
+ghost use Rattle.flight_meaning.specs.Linked.{place_at};
 ghost use Rattle.flight_link.specs.Marks.{AreBases, mentioned, IsFirstIn};
 ghost use Rattle.flight_link.specs.Nodes.{IsTable, place_in, spot_of};
 ghost use Rattle.flight_link.specs.Numbering.{number_among};
@@ -11,7 +11,7 @@ ghost use Rattle.flight_link.specs.Spots.{IsNumber, IsFirst, places_in};
 
 use crate::found::Spot;
 use crate::table::Table;
-use flight_place::Place;
+use flight_meaning::Place;
 
 /// What a node without a place of its own is known by.
 #[derive(Clone, Copy)]

@@ -12,7 +12,8 @@ use crate::node::{Start, State};
 use crate::room::put_last;
 use crate::step::walk_of;
 use crate::table::Table;
-use flight_place::Place;
+use crate::unproved::unproved;
+use flight_meaning::Place;
 use flight_value::Memory;
 
 impl Table {
@@ -31,7 +32,7 @@ impl Table {
             return Ok(known.node);
         }
         let Ok(node) = u32::try_from(self.starts.len()) else {
-            return Err(Memory);
+            return Err(unproved());
         };
         self.starts.reserve(1)?;
         states.reserve(1)?;

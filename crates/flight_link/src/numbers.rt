@@ -1,6 +1,6 @@
 ghost use Rattle.std.specs.Prelude.{◌≡◌, ◌≤◌, ◌<◌, ◌^◌, ◌++◌, ◌∷◌, [], IfOk, OnOk, List, length, slice_get, None, Some, ℕ, nat_eq, cond};
 ghost use Rattle.std.specs.HashMap.{get};
-ghost use Rattle.flight_place.specs.declared.place.PlacedRow.{PlacedRow};
+ghost use Rattle.flight_meaning.specs.declared.place.PlacedRow.{PlacedRow};
 ghost use Rattle.flight_link.specs.Marks.{AreBases};
 ghost use Rattle.flight_link.specs.Nodes.{IsTable};
 ghost use Rattle.flight_link.specs.Numbering.{AreNumbered, Grows, IsKey, IsPut, number_of as its_number};
@@ -12,6 +12,7 @@ use crate::key::NodeKey;
 use crate::mention::Bases;
 use crate::room::put_last;
 use crate::table::Table;
+use crate::unproved::unproved;
 use flight_value::Memory;
 use std::alloc::Global;
 use std::collections::HashMap;
@@ -33,7 +34,7 @@ impl Numbers {
         ensures none { IfOk result (λ n. n.keys.items ≡ []) }
     {
         let Ok(count) = usize::try_from(places) else {
-            return Err(Memory);
+            return Err(unproved());
         };
         let mut places = Vec::with_capacity(alloc, count)?;
         reach(&mut places, count)?;
@@ -93,7 +94,7 @@ impl Table {
         ensures number { IfOk result (λ n. slice_get numbers.new.keys.items n ≡ Some key) }
     {
         let Ok(number) = u32::try_from(numbers.keys.len()) else {
-            return Err(Memory);
+            return Err(unproved());
         };
         numbers.keys.reserve(1)?;
         self.put_number(bases, numbers, key, number)?;

@@ -3,7 +3,7 @@ ghost use Rattle.flight_value.specs.Graph.{IsValid};
 ghost use Rattle.flight_value.specs.Store.{DrawOneGraph, of_graph};
 ghost use Rattle.flight_value.specs.declared.graph.Graph.{Graph};
 ghost use Rattle.flight_graph.specs.Text.{text_of};
-ghost use Rattle.flight_place.specs.Meaning.{meaning};
+ghost use Rattle.flight_meaning.specs.Meaning.{meaning};
 ghost use Rattle.flight_link.specs.Drafted.{DraftsNode, IsDrafted, plain, slot_parts};
 ghost use Rattle.flight_link.specs.Marks.{IsWhole};
 ghost use Rattle.flight_link.specs.Numbering.{AreNumbered, IsKey, number_of as its_number};

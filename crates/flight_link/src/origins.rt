@@ -10,7 +10,7 @@ use crate::draw::{Drawing, Whole};
 use crate::key::NodeKey;
 use crate::table::{Table, row_at};
 use flight_graph::visited;
-use flight_place::PlacedRow;
+use flight_meaning::PlacedRow;
 use flight_value::{Graph, List, Memory, Node, Slot};
 use std::alloc::Global;
 

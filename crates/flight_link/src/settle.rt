@@ -8,7 +8,7 @@ use crate::backlog::Backlog;
 use crate::node::{Loose, Start, State};
 use crate::step::walk_of;
 use crate::table::Table;
-use flight_place::Place;
+use flight_meaning::Place;
 use flight_value::Text;
 use std::ops::Range;
 

@@ -1,10 +1,10 @@
 ghost use Rattle.std.specs.Prelude.{ℕ, ◌≡◌, ◌≢◌, ◌<◌, ◌^◌, ◌↔◌, IsTrue, map, option_map, slice_get, decimal, MatchOption};
 ghost use Rattle.flight_value.specs.Graph.{Ascend};
 ghost use Rattle.flight_place.specs.Parts.{HasOrder};
-ghost use Rattle.flight_place.specs.Resolve.{step, property, item_from, part};
+ghost use Rattle.flight_meaning.specs.Resolve.{step, property, item_from, part};
 ghost use Rattle.flight_link.specs.Nodes.{followed, fails};
 
-use flight_place::{Named, Place};
+use flight_meaning::{Named, Place};
 use flight_value::{Atom, Text};
 use itoa::Buffer;
 

@@ -1,5 +1,5 @@
 ghost use Rattle.std.specs.Prelude.{◌≡◌, ◌≢◌, ◌↔◌, IsTrue, [], false, ℕ, length, slice_get, option_copied, option_and_then, drop};
-ghost use Rattle.flight_place.specs.Linked.{rows_of, FollowOn};
+ghost use Rattle.flight_meaning.specs.Linked.{rows_of, FollowOn};
 ghost use Rattle.flight_link.specs.Nodes.{IsTable, IsStop, IsStep, place_in, node_in, spot_of, Reaches, Gets, steps_left};
 
 use crate::cell::Cell;
@@ -7,7 +7,7 @@ use crate::found::Spot;
 use crate::ids::Ids;
 use crate::node::{Start, State};
 use crate::step::{is_failure, step_down};
-use flight_place::{Place, PlacedRow};
+use flight_meaning::{Place, PlacedRow};
 use flight_value::{List, Text};
 
 /// The rows, and the nodes of their ids and of the places that are followed.

@@ -1,7 +1,7 @@
 ghost use Rattle.std.specs.Prelude.{ℕ, ◌≡◌, ◌≢◌, false, true, None, Some};
-ghost use Rattle.flight_place.specs.declared.place.Place.{Place};
-ghost use Rattle.flight_place.specs.declared.place.Place.TheVariants as place;
-ghost use Rattle.flight_place.specs.Meaning.{at_place, value_of, Token, map_token, set_token};
+ghost use Rattle.flight_meaning.specs.declared.place.Place.{Place};
+ghost use Rattle.flight_meaning.specs.declared.place.Place.TheVariants as place;
+ghost use Rattle.flight_meaning.specs.Meaning.{at_place, value_of, Token, map_token, set_token};
 ghost use Rattle.flight_link.specs.declared.found.Spot.{Spot};
 ghost use Rattle.flight_link.specs.Least.{token_at};
 ghost use Rattle.flight_link.specs.Nodes.{AreLinked, IsTable, IsStop, HasNode, followed, has_ended, place_in, spot_of};
@@ -13,7 +13,7 @@ use crate::found::Spot;
 use crate::node::State;
 use crate::step::walk_of;
 use crate::table::Table;
-use flight_place::Place;
+use flight_meaning::Place;
 use flight_text::Ref;
 use flight_value::{Atom, Text};
 

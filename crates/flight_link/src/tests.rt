@@ -1,6 +1,7 @@
 use crate::{Found, LinkFault, LinkKind, Links, Seen, Spot};
 use flight_graph::{Kind, Label, canon_text};
-use flight_place::{Manner, PlaceTree, places};
+use flight_meaning::PlaceTree;
+use flight_place::{Manner, places};
 use flight_row::{Row, RowKind};
 use flight_text::Ref;
 use flight_value::{Atom, List, Memory, Text};

@@ -7,7 +7,8 @@ use crate::draft::Draft;
 use crate::key::NodeKey;
 use crate::laid::Head;
 use crate::target::Target;
-use flight_place::Named;
+use crate::unproved::unproved;
+use flight_meaning::Named;
 use flight_value::{Memory, Text};
 
 /// Appends the line of a node.
@@ -156,7 +157,7 @@ fn write_element(out: &mut Draft, targets: &[Target<'_>]) -> Result<(), Memory>
     ensures { OnOk result (out.new ≡ out.old ++ node_parts head.Element targets.now) }
 {
     let [tag, key, props] = targets else {
-        return Err(Memory);
+        return Err(unproved());
     };
     out.push_str("element ")?;
     write_slot(out, tag)?;
@@ -170,7 +171,7 @@ fn write_promise(out: &mut Draft, targets: &[Target<'_>]) -> Result<(), Memory>
     ensures { OnOk result (out.new ≡ out.old ++ node_parts head.Promise targets.now) }
 {
     let [outcome] = targets else {
-        return Err(Memory);
+        return Err(unproved());
     };
     out.push_str("promise ")?;
     write_slot(out, outcome)
@@ -180,7 +181,7 @@ fn write_action(out: &mut Draft, id: &Text, targets: &[Target<'_>]) -> Result<()
     ensures { OnOk result (out.new ≡ out.old ++ node_parts (head.Action id.entry) targets.now) }
 {
     let [bound] = targets else {
-        return Err(Memory);
+        return Err(unproved());
     };
     out.push_str("action ")?;
     out.push_string(id.as_str())?;

@@ -1,9 +1,9 @@
 ghost use Rattle.std.specs.Prelude.{◌≡◌, ◌↔◌, IsTrue, is_some, slice_get, Some};
-ghost use Rattle.flight_place.specs.Resolve.{to, ComesToAnEnd};
-ghost use Rattle.flight_place.specs.Good.{id_of as id_of_place, IsDefined, IsTokenDefined, IsLeastUndefined};
-ghost use Rattle.flight_place.specs.Meaning.{map_token, set_token, entries, Reference, reference_of};
-ghost use Rattle.flight_place.specs.declared.place.Place.{Place};
-ghost use Rattle.flight_place.specs.declared.place.PlacedRow.{PlacedRow};
+ghost use Rattle.flight_meaning.specs.Resolve.{to, ComesToAnEnd};
+ghost use Rattle.flight_meaning.specs.Good.{id_of as id_of_place, IsDefined, IsTokenDefined, IsLeastUndefined};
+ghost use Rattle.flight_meaning.specs.Meaning.{map_token, set_token, entries, Reference, reference_of};
+ghost use Rattle.flight_meaning.specs.declared.place.Place.{Place};
+ghost use Rattle.flight_meaning.specs.declared.place.PlacedRow.{PlacedRow};
 ghost use Rattle.flight_link.specs.Nodes.{AreLinked, IsTable, place_in, spot_of};
 ghost use Rattle.flight_link.specs.Least.{IsLeastIn, IsIn, IsInRows, token_at, is_pair, refers_in, text_in, bound_in, lesser as lesser_of};
 
@@ -11,7 +11,7 @@ use crate::found::Spot;
 use crate::node::State;
 use crate::step::{is_failure, property_of};
 use crate::table::{Table, row_at};
-use flight_place::Place;
+use flight_meaning::Place;
 use flight_row::RowKind;
 use flight_text::Ref;
 use flight_value::{Atom, Text};

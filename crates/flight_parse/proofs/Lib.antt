@@ -1,6 +1,6 @@
-pub mod Firsts
-pub mod Lookups
-pub mod Scopes
-pub mod Terms
-pub mod Keeping
-pub mod Importing
+pub mod Dates
+pub mod Turns
+pub mod Names
+pub mod Chains
+pub mod Numbers
+pub mod Spelled

@@ -1,5 +1,4 @@
-pub mod Names
-pub mod Seen
-pub mod Kept
+pub mod Code
+pub mod Values
+pub mod Declarations
 pub mod Reports
-pub mod Posts

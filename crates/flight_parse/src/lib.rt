@@ -1,25 +1,29 @@
-//! Programs of the component language, read from their text.
+//! The declarations that a text of the component language spells, as trees with names and their places.
 //!
-//! [`parse`] gives the program that a text is, or its first fault. What a text comes to is said in `flight_grammar`
-//! (`specs/Outcome.antt`), and that this is one thing. The declarations come from `flight_tree`; here their names are
-//! looked up. Tables by name keep this linear.
+//! [`declarations`] reads them, or finds the first fault of the text's tokens or of its form. It reads from left to
+//! right with one token of foresight, and is proved against the reader of `flight_grammar`. Names are not looked up
+//! here.
 #![tactic(auto)]
 
-mod attribute_fault;
-mod body;
 mod build;
-mod element_fault;
+mod declaration;
+mod expression;
 mod fault;
-mod faults;
-mod import;
-mod known;
-mod meaning;
-mod name_fault;
-mod program;
-mod property_names;
+mod json_value;
+mod lexeme;
+mod numeral;
 mod read;
-mod repeated;
-mod tables;
+mod simple;
+mod stop;
+mod tag;
+mod terminal;
+mod tree;
+mod values;
+mod word;
 
-pub use fault::ParseFault;
-pub use read::parse;
+pub use declaration::Declaration;
+pub use fault::TreeFault;
+pub use json_value::{Json, Member};
+pub use lexeme::Name;
+pub use read::declarations;
+pub use tree::{Entry, Post, Property, Tree};

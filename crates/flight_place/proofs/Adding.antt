@@ -1,8 +1,8 @@
 -- Places added one after another, and faults behind places.
 use Rattle.std.proofs.Common.{◌≡◌, ℕ, ◌+◌, List, [], ◌∷◌, ◌++◌, length, slice_set, refl, sym, ◌∙◌, ap, subst, append_assoc, append-nil, length-append, inl, inr}
 use Rattle.std.proofs.Math.Seq.{set-append_seam}
-use Rattle.flight_place.specs.declared.place.Place.{Place}
-use Rattle.flight_place.specs.declared.place.Manner.{Manner}
+use Rattle.flight_meaning.specs.declared.place.Place.{Place}
+use Rattle.flight_place.specs.declared.manner.Manner.{Manner}
 use Rattle.flight_place.specs.declared.fault.PlaceKind.{PlaceKind}
 use Rattle.flight_place.specs.declared.fault.PlaceFault.{PlaceFault}
 use Rattle.flight_place.specs.declared.fault.PlaceFault.TheVariants.{Fault, Memory}

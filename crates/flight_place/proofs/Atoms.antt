@@ -16,11 +16,11 @@ use Rattle.flight_row.specs.declared.row.RowKind.{RowKind}
 use Rattle.flight_row.specs.declared.row.RowKind.TheVariants as row
 use Rattle.flight_text.specs.declared.mark.Mark.{Mark}
 use Rattle.flight_text.specs.declared.mark.Mark.TheVariants as mark
-use Rattle.flight_place.specs.declared.place.Place.{Place}
-use Rattle.flight_place.specs.declared.place.Place.TheVariants as place
-use Rattle.flight_place.specs.declared.place.Manner.{Manner}
-use Rattle.flight_place.specs.declared.place.Manner.TheVariants.{Wire, Reply}
-use Rattle.flight_place.specs.declared.place.PlaceTree.{PlaceTree}
+use Rattle.flight_meaning.specs.declared.place.Place.{Place}
+use Rattle.flight_meaning.specs.declared.place.Place.TheVariants as place
+use Rattle.flight_place.specs.declared.manner.Manner.{Manner}
+use Rattle.flight_place.specs.declared.manner.Manner.TheVariants.{Wire, Reply}
+use Rattle.flight_meaning.specs.declared.place.PlaceTree.{PlaceTree}
 use Rattle.flight_place.specs.declared.fault.PlaceKind.TheVariants.{BadModel, Number, BadElement}
 use Rattle.flight_place.specs.Tokens.{place_of}
 use Rattle.flight_place.specs.Places.{Visit, placed, token, faulty, number_visit, is_marked, is_element, element_of, mark_visit, count, item_numbers, visits, element_visits, item_visits, member_visits, HasPlace, HavePlaces}

@@ -5,15 +5,6 @@ pub mod Walks
 pub mod Trees
 pub mod Within
 pub mod Ordered
-pub mod Walking
-pub mod Paths
-pub mod OneMeaning
-pub mod MoreRows
-pub mod MoreMeaning
-pub mod PairsStay
-mod Worked
-pub mod Settled
-pub mod Undefined
 pub mod Rooted
 pub mod Parsing
 pub mod Gathering

@@ -8,11 +8,11 @@ use Rattle.json.specs.Json as json
 use Rattle.json.specs.Json.{Parse, parse_map, after_end_array, items, value, value_with}
 use Rattle.serde_json.specs.Data.{Num, Data, number, string, array, object, Items, no_items, item, Members, no_members}
 use Rattle.serde_json.specs.Read.{of_json, of_items, of_members, number_of, converted}
-use Rattle.flight_place.specs.declared.place.Place.{Place}
-use Rattle.flight_place.specs.declared.place.Manner.{Manner}
+use Rattle.flight_meaning.specs.declared.place.Place.{Place}
+use Rattle.flight_place.specs.declared.manner.Manner.{Manner}
 use Rattle.flight_place.specs.declared.fault.PlaceFault.{PlaceFault}
 use Rattle.flight_place.specs.declared.fault.PlaceFault.TheVariants as fault
-use Rattle.flight_place.specs.declared.place.Place.TheVariants as place
+use Rattle.flight_meaning.specs.declared.place.Place.TheVariants as place
 use Rattle.flight_place.specs.declared.reading.Unread.{Unread}
 use Rattle.flight_place.specs.declared.reading.Unread.TheVariants as unread
 use Rattle.flight_place.specs.declared.placing.Stop.{Stop}

@@ -7,10 +7,10 @@ use Rattle.flight_text.specs.Mark.{plain}
 use Rattle.flight_text.specs.declared.mark.Mark.TheVariants as mark
 use Rattle.flight_text.proofs.Lines.{is_marked, plain_unmarked}
 use Rattle.flight_value.specs.declared.graph.Atom.TheVariants as atom
-use Rattle.flight_place.specs.declared.place.Place.{Place}
-use Rattle.flight_place.specs.declared.place.Place.TheVariants as place
-use Rattle.flight_place.specs.declared.place.Manner.{Manner}
-use Rattle.flight_place.specs.declared.place.Manner.TheVariants.{Wire, Reply}
+use Rattle.flight_meaning.specs.declared.place.Place.{Place}
+use Rattle.flight_meaning.specs.declared.place.Place.TheVariants as place
+use Rattle.flight_place.specs.declared.manner.Manner.{Manner}
+use Rattle.flight_place.specs.declared.manner.Manner.TheVariants.{Wire, Reply}
 use Rattle.flight_place.specs.Tokens.{is_plain, is_dollar, is_of_wire, is_barred}
 use Rattle.flight_place.specs.Places.{token}
 use Rattle.flight_place.specs.Faults.{Adds}

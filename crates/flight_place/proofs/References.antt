@@ -12,10 +12,10 @@ use Rattle.flight_text.specs.Hex.{is_hex_digit, IsId}
 use Rattle.flight_text.specs.Mark.{IsSpelling}
 use Rattle.flight_text.specs.declared.mark.Mark.TheVariants as mark
 use Rattle.flight_text.proofs.Digits.{both_true, all_hex_are_digits}
-use Rattle.flight_place.specs.declared.place.Place.{Place}
-use Rattle.flight_place.specs.declared.place.Place.TheVariants as place
-use Rattle.flight_place.specs.declared.place.Manner.{Manner}
-use Rattle.flight_place.specs.declared.place.Manner.TheVariants.{Wire, Reply}
+use Rattle.flight_meaning.specs.declared.place.Place.{Place}
+use Rattle.flight_meaning.specs.declared.place.Place.TheVariants as place
+use Rattle.flight_place.specs.declared.manner.Manner.{Manner}
+use Rattle.flight_place.specs.declared.manner.Manner.TheVariants.{Wire, Reply}
 use Rattle.flight_place.specs.Tokens.{is_of_wire, is_barred}
 use Rattle.flight_place.specs.Places.{token}
 use Rattle.flight_place.specs.Faults.{Adds}

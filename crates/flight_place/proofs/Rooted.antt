@@ -7,9 +7,9 @@ use Rattle.serde_json.specs.Read.{read}
 use Rattle.flight_row.specs.declared.row.Row.{Row}
 use Rattle.flight_row.specs.declared.row.RowKind.{RowKind}
 use Rattle.flight_row.specs.declared.row.RowKind.TheVariants as row
-use Rattle.flight_place.specs.declared.place.Manner.{Manner}
-use Rattle.flight_place.specs.declared.place.Place.{Place}
-use Rattle.flight_place.specs.declared.place.PlaceTree.{PlaceTree}
+use Rattle.flight_place.specs.declared.manner.Manner.{Manner}
+use Rattle.flight_meaning.specs.declared.place.Place.{Place}
+use Rattle.flight_meaning.specs.declared.place.PlaceTree.{PlaceTree}
 use Rattle.flight_place.specs.Places.{faulty, visits, element_visits, marked_visits, array_visits, is_marked, is_element, HavePlaces}
 use Rattle.flight_place.specs.Rows.{model_visits, row_visits, IsTree}
 use Rattle.flight_place.specs.declared.fault.PlaceKind.TheVariants.{BadElement}

@@ -11,10 +11,10 @@ use Rattle.flight_row.specs.declared.row.Row.{Row}
 use Rattle.flight_row.specs.declared.row.RowKind.{RowKind}
 use Rattle.flight_text.specs.Whole.{whole_of, has_whole_numbers, items_have_whole_numbers, members_have_whole_numbers}
 use Rattle.flight_value.specs.declared.graph.Atom.TheVariants as atom
-use Rattle.flight_place.specs.declared.place.Place.{Place}
-use Rattle.flight_place.specs.declared.place.Place.TheVariants as place
-use Rattle.flight_place.specs.declared.place.Manner.{Manner}
-use Rattle.flight_place.specs.declared.place.PlaceTree.{PlaceTree}
+use Rattle.flight_meaning.specs.declared.place.Place.{Place}
+use Rattle.flight_meaning.specs.declared.place.Place.TheVariants as place
+use Rattle.flight_place.specs.declared.manner.Manner.{Manner}
+use Rattle.flight_meaning.specs.declared.place.PlaceTree.{PlaceTree}
 use Rattle.flight_place.specs.declared.fault.PlaceKind.{PlaceKind}
 use Rattle.flight_place.specs.declared.fault.PlaceKind.TheVariants.{BadModel}
 use Rattle.flight_place.specs.declared.fault.PlaceFault.{PlaceFault}

@@ -4,10 +4,10 @@ use Rattle.std.proofs.lemmas.Bool.{false≢true}
 use Rattle.flight_place.specs.Parsed.{data_of, items_data}
 use Rattle.flight_place.specs.declared.parsed.Parsed.{Parsed}
 use Rattle.serde_json.specs.Data.{Data, null, boolean, number, string, array, object, Items, no_items, item, Members, member}
-use Rattle.flight_place.specs.declared.place.Place.{Place}
-use Rattle.flight_place.specs.declared.place.Place.TheVariants as place
-use Rattle.flight_place.specs.declared.place.Named.{Named}
-use Rattle.flight_place.specs.declared.place.Manner.{Manner}
+use Rattle.flight_meaning.specs.declared.place.Place.{Place}
+use Rattle.flight_meaning.specs.declared.place.Place.TheVariants as place
+use Rattle.flight_meaning.specs.declared.place.Named.{Named}
+use Rattle.flight_place.specs.declared.manner.Manner.{Manner}
 use Rattle.flight_place.specs.declared.fault.PlaceKind.TheVariants.{BadElement}
 use Rattle.flight_place.specs.declared.fault.PlaceFault.{PlaceFault}
 use Rattle.flight_place.specs.Places.{Visit, placed, is_mark, is_key, is_element, element_of, mark_visit, count, item_numbers, visits, element_visits, marked_visits, IsFirstFault, item_visits, member_visits}

@@ -1,8 +1,8 @@
 -- What the functions of this crate say of the places that they add, and of their faults.
 use Rattle.std.specs.Prelude.{ℕ, ◌≡◌, List, ◌++◌, None}
 use Rattle.serde_json.specs.Read.{read}
-use Rattle.flight_place.specs.declared.place.Place.{Place}
-use Rattle.flight_place.specs.declared.place.Manner.{Manner}
+use Rattle.flight_meaning.specs.declared.place.Place.{Place}
+use Rattle.flight_place.specs.declared.manner.Manner.{Manner}
 use Rattle.flight_place.specs.declared.fault.PlaceKind.TheVariants.{BadModel}
 use Rattle.flight_place.specs.declared.fault.PlaceFault.{PlaceFault}
 use Rattle.flight_place.specs.declared.fault.PlaceFault.TheVariants.{Fault, Memory}

@@ -3,10 +3,5 @@ pub mod Places
 pub mod Faults
 pub mod Parts
 pub mod Rows
-pub mod Linked
-pub mod Resolve
-pub mod Meaning
-pub mod Good
-pub mod Lasting
 pub mod Parsed
 pub mod Placing

@@ -2,8 +2,8 @@
 use Rattle.std.specs.Prelude.{ℕ, ◌<◌, ◌≢◌, map, All}
 use Rattle.flight_value.specs.declared.graph.Atom.TheVariants as atom
 use Rattle.flight_value.specs.Graph.{Ascend, IsValidAtom}
-use Rattle.flight_place.specs.declared.place.Place.{Place}
-use Rattle.flight_place.specs.declared.place.Place.TheVariants as place
+use Rattle.flight_meaning.specs.declared.place.Place.{Place}
+use Rattle.flight_meaning.specs.declared.place.Place.TheVariants as place
 
 -- each number in the place is that of one of so many places
 abbrev pub IsWithin : ℕ → Place → Type 0

@@ -7,11 +7,11 @@ use Rattle.flight_text.specs.declared.mark.Mark.{Mark}
 use Rattle.flight_text.specs.declared.mark.Mark.TheVariants as mark
 use Rattle.flight_text.specs.Mark.{IsSpelling}
 use Rattle.flight_text.specs.Whole.{whole_of}
-use Rattle.flight_place.specs.declared.place.Place.{Place}
-use Rattle.flight_place.specs.declared.place.Place.TheVariants as place
-use Rattle.flight_place.specs.declared.place.Named.{Named}
-use Rattle.flight_place.specs.declared.place.Manner.{Manner}
-use Rattle.flight_place.specs.declared.place.Manner.TheVariants.{Wire, Reply}
+use Rattle.flight_meaning.specs.declared.place.Place.{Place}
+use Rattle.flight_meaning.specs.declared.place.Place.TheVariants as place
+use Rattle.flight_meaning.specs.declared.place.Named.{Named}
+use Rattle.flight_place.specs.declared.manner.Manner.{Manner}
+use Rattle.flight_place.specs.declared.manner.Manner.TheVariants.{Wire, Reply}
 use Rattle.flight_place.specs.declared.fault.PlaceKind.{PlaceKind}
 use Rattle.flight_place.specs.declared.fault.PlaceKind.TheVariants.{Number, BadToken, BadElement}
 use Rattle.flight_place.specs.Tokens.{is_dollar, is_text, is_barred, place_of}

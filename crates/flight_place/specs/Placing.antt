@@ -3,8 +3,8 @@ use Rattle.std.specs.Prelude.{ℕ, ◌≡◌, ◌⊎◌, ◌+◌, List, length, 
 use Rattle.json.specs.Token.{Token}
 use Rattle.json.specs.Token as token
 use Rattle.serde_json.specs.Data.{Data, Items}
-use Rattle.flight_place.specs.declared.place.Place.{Place}
-use Rattle.flight_place.specs.declared.place.Manner.{Manner}
+use Rattle.flight_meaning.specs.declared.place.Place.{Place}
+use Rattle.flight_place.specs.declared.manner.Manner.{Manner}
 use Rattle.flight_place.specs.declared.fault.PlaceKind.{PlaceKind}
 use Rattle.flight_place.specs.declared.fault.PlaceKind.TheVariants.{BadModel}
 use Rattle.flight_place.specs.declared.fault.PlaceFault.{PlaceFault}

@@ -9,9 +9,9 @@ use Rattle.flight_text.specs.Whole.{has_whole_numbers}
 use Rattle.flight_row.specs.declared.row.Row.{Row}
 use Rattle.flight_row.specs.declared.row.RowKind.{RowKind}
 use Rattle.flight_row.specs.declared.row.RowKind.TheVariants as row
-use Rattle.flight_place.specs.declared.place.Place.TheVariants as place
-use Rattle.flight_place.specs.declared.place.Manner.{Manner}
-use Rattle.flight_place.specs.declared.place.PlaceTree.{PlaceTree}
+use Rattle.flight_meaning.specs.declared.place.Place.TheVariants as place
+use Rattle.flight_place.specs.declared.manner.Manner.{Manner}
+use Rattle.flight_meaning.specs.declared.place.PlaceTree.{PlaceTree}
 use Rattle.flight_place.specs.declared.fault.PlaceKind.{PlaceKind}
 use Rattle.flight_place.specs.declared.fault.PlaceKind.TheVariants.{BadModel, Number}
 use Rattle.flight_place.specs.Places.{Visit, placed, faulty, visits, HavePlaces, IsFirstFault}

@@ -10,15 +10,15 @@
 //! JSON is read as serde_json reads it, but with no tree of the whole payload: items of an array are placed as they
 //! come, and an object or an element is read first, its texts borrowed, since its members may stand in any order.
 //!
-//! Where a reference leads is no matter of this crate.
+//! Where a reference leads is no matter of this crate: that is flight_meaning.
 #![tactic(auto)]
 
 mod fault;
 mod gathered;
 mod law;
+mod manner;
 mod number;
 mod parsed;
-mod place;
 mod placing;
 mod reading;
 mod scratch;
@@ -29,10 +29,7 @@ mod tree;
 mod walk;
 
 pub use fault::{PlaceFault, PlaceKind};
-pub use law::{
-    names_ascend, numbers_lead_to_places, one_end, one_meaning, one_tree, pairs_stay,
-    resolved_stays, steps_go_on, walks_on,
-};
-pub use place::{Manner, Named, Place, PlaceTree, PlacedRow};
+pub use law::{names_ascend, numbers_lead_to_places, one_tree};
+pub use manner::Manner;
 pub use scratch::Scratch;
 pub use tree::{places, places_with};

@@ -10,7 +10,8 @@ ghost use Rattle.flight_place.specs.Placing.{Brings, BringsItems, Stops, is_mark
 
 use crate::fault::{PlaceFault, PlaceKind};
 use crate::parsed::Parsed;
-use crate::place::{Manner, Place};
+use crate::manner::Manner;
+use flight_meaning::Place;
 use crate::reading::{Unread, read_from, read_items};
 use crate::token::is_dollar;
 use crate::walk::{push, put, unfinished, walk};

@@ -1,4 +1,4 @@
-use crate::place::Place;
+use flight_meaning::Place;
 use std::alloc::Global;
 
 /// Memory that is kept from row to row.

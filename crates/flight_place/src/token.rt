@@ -8,7 +8,8 @@ ghost use Rattle.flight_place.specs.Places.{HasPlace, Visit, token};
 ghost use Rattle.flight_place.specs.Faults.{Refuses};
 
 use crate::fault::{PlaceFault, PlaceKind};
-use crate::place::{Manner, Place};
+use crate::manner::Manner;
+use flight_meaning::Place;
 use flight_text::{Mark, Marked, read_mark};
 use flight_value::{Atom, Memory, Text, Wide};
 use std::alloc::Global;

@@ -7,7 +7,8 @@ ghost use Rattle.flight_place.specs.Placing.{StopsAt, IsConfirmed};
 ghost use Rattle.flight_place.specs.Rows.{model_visits, import_visit, digest_of, error_visit, row_visits, IsTree, IsRowFault};
 
 use crate::fault::{PlaceFault, PlaceKind};
-use crate::place::{Manner, Place, PlaceTree};
+use crate::manner::Manner;
+use flight_meaning::{Place, PlaceTree};
 use crate::placing::{Stop, place_next};
 use crate::reading::{LEVELS, parse};
 use crate::scratch::Scratch;

@@ -1,5 +1,5 @@
 use crate::print_program;
-use flight_parse::parse;
+use flight_resolve::parse;
 use std::alloc::Global;
 use std::test::Fail;
 

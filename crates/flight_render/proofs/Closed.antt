@@ -31,7 +31,8 @@ use Rattle.flight_render.specs.Values.{made_in, arguments, outcomes, outcome_nod
 use Rattle.flight_render.specs.Bodies.{inner, body_at, node_at}
 use Rattle.flight_render.specs.Jobs.{Job, the_root, element, outcome, known, blank, Value, shown, of_job, failed, stopped, is_server, job_of, argument, argument_in, comes, value_of, Leads, IsFinal, target_of, IsTarget, Stands}
 use Rattle.flight_render.specs.Plain.{flow_slots, last_job, flow_last, flow_item, flow, label_of_kind, made_shape, source_slots, source_shape, flow_shape, NodeIs}
-use Rattle.flight_render.specs.Costs.{In, Reached, at_root, through, in_slot}
+use Rattle.flight_value.specs.Listed.{In}
+use Rattle.flight_render.specs.Costs.{Reached, at_root, through, in_slot}
 use Rattle.flight_render.specs.Valid.{IsValidGround, IsNamed, MadeWell, IsKnown, ShowsKnown}
 use Rattle.flight_render.specs.Laws.{Grows}
 use Rattle.flight_render.proofs.Names.{some-injective}

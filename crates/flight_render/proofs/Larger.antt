@@ -21,7 +21,8 @@ use Rattle.flight_render.specs.Body.{Start, started, run_start, component_start,
 use Rattle.flight_render.specs.Bodies.{inner, element_of, Finishes, is_finished, finished, made_by, tables_with, next_body, body_below, body_at, node_at, tables_below, tables_at, tables_for, TabledFor}
 use Rattle.flight_render.specs.Jobs.{Job, the_root, element, outcome, known, blank, Value, shown, of_job, failed, stopped, IsFinal, is_server, job_of, comes, value_of, Leads, target_of}
 use Rattle.flight_render.specs.Plain.{flow_slots, last_job, flow_last, flow_item, flow, made_shape, flow_shape, shape_at, NodeIs}
-use Rattle.flight_render.specs.Costs.{In, Reached, at_root, through, in_slot, waits_at, flow_stop, Stops, Rendered}
+use Rattle.flight_value.specs.Listed.{In}
+use Rattle.flight_render.specs.Costs.{Reached, at_root, through, in_slot, waits_at, flow_stop, Stops, Rendered}
 use Rattle.flight_render.specs.Laws.{Grows, Stays, IsLasting}
 use Rattle.flight_render.proofs.Grows.{keeps, with_settled, eval-keeps, source-keeps}
 use Rattle.flight_render.proofs.Names.{some-injective}

@@ -18,7 +18,8 @@ use Rattle.flight_render.specs.Values.{outcomes, node_in, tree_of}
 use Rattle.flight_render.specs.Bodies.{node_at}
 use Rattle.flight_render.specs.Jobs.{Job, outcome, Value, shown, of_job, comes, target_of, Stands}
 use Rattle.flight_render.specs.Plain.{flow_slots, last_job, flow_last, flow_item, flow, label_of_kind, made_shape, source_slots, source_shape, flow_shape, NodeIs}
-use Rattle.flight_render.specs.Costs.{In, Reached, at_root, through, in_slot}
+use Rattle.flight_value.specs.Listed.{In}
+use Rattle.flight_render.specs.Costs.{Reached, at_root, through, in_slot}
 use Rattle.flight_render.proofs.Names.{some-injective}
 use Rattle.flight_render.proofs.Falling.{IsOwnJob, value_own, chain_ends, one_end}
 

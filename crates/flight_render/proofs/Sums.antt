@@ -1,7 +1,8 @@
 -- Sums over lists of distinct addresses.
 use Rattle.std.proofs.Common.{◌≡◌, ℕ, ◌+◌, ◌≤◌, ◌<◌, Bool, inl, inr, List, [], ◌∷◌, map, refl, sym, ap, ◌∙◌, subst, arith}
 use Rattle.flight_render.specs.declared.root.Ground.{Ground}
-use Rattle.flight_render.specs.Costs.{In, Rendered, Distinct, total_of, Total, TotalOver}
+use Rattle.flight_value.specs.Listed.{In, Distinct}
+use Rattle.flight_render.specs.Costs.{Rendered, total_of, Total, TotalOver}
 use Rattle.flight_render.specs.Laws.{Grows}
 use Rattle.flight_render.proofs.Larger.{rendered-keeps}
 

@@ -2,6 +2,7 @@
 use Rattle.std.specs.Prelude.{ℕ, ◌+◌, ◌<◌, ◌≡◌, ◌⊎◌, Bool, List, [], ◌∷◌, map, Option, Some, None, slice_get}
 use Rattle.flight_value.specs.Store as target
 use Rattle.flight_value.specs.Store.{Shape}
+use Rattle.flight_value.specs.Listed.{In, Distinct}
 use Rattle.flight_value.specs.declared.key.Key.{Key}
 use Rattle.flight_value.specs.declared.key.Key.TheVariants as key
 use Rattle.flight_value.specs.declared.made.Tree.{Tree}
@@ -11,10 +12,6 @@ use Rattle.flight_render.specs.Run.{gave, waits, Run, End}
 use Rattle.flight_render.specs.Bodies.{inner, body_at, Finishes}
 use Rattle.flight_render.specs.Jobs.{Job, the_root, element, outcome, Value, of_job, stopped, job_of, job_body, comes, value_of, IsTarget}
 use Rattle.flight_render.specs.Plain.{NodeIs, last_job}
-
-abbrev pub In : {A : Type 0} → A → List A → Type 0
-In a [] = ⊥
-In a (x ∷ xs) = (a ≡ x) ⊎ In a xs
 
 -- the values that rendering reaches: that of the root, what a job comes to, and the slots of nodes
 pub data Reached (g : Ground) (settled : List Bool) : Value → Type 0 where
@@ -68,10 +65,6 @@ pub record Rendered (g : Ground) (settled : List Bool) (address : List ℕ) (cos
   pub value : Value
   pub met : Reached g settled value
   pub is_job : job_of g settled value ≡ Some job
-
-abbrev pub Distinct : {A : Type 0} → List A → Type 0
-Distinct [] = Unit {0}
-Distinct (x ∷ xs) = (In x xs → ⊥) × Distinct xs
 
 abbrev pub total_of : List (List ℕ × ℕ) → ℕ
 total_of [] = 0

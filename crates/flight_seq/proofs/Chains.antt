@@ -13,7 +13,8 @@ use Rattle.flight_render.specs.declared.root.Ground.{Ground}
 use Rattle.flight_render.specs.Run as run
 use Rattle.flight_render.specs.Bodies.{inner}
 use Rattle.flight_render.specs.Jobs.{Job, the_root, element, outcome, known, blank, Value, of_job, job_of, comes, argument_in, value_of, Leads, IsTarget, target_of}
-use Rattle.flight_render.specs.Costs.{Distinct, Reached, through, total_of, IsOver}
+use Rattle.flight_value.specs.Listed.{Distinct}
+use Rattle.flight_render.specs.Costs.{Reached, through, total_of, IsOver}
 use Rattle.flight_render.proofs.Sourced.{each_append}
 use Rattle.flight_seq.specs.declared.held.End.{End}
 use Rattle.flight_seq.specs.declared.held.End.TheVariants as end

@@ -8,7 +8,8 @@ use Rattle.flight_value.specs.declared.key.Key.{Key}
 use Rattle.flight_value.specs.Graph.{slots_of}
 use Rattle.flight_render.specs.declared.root.Ground.{Ground}
 use Rattle.flight_render.specs.Jobs.{Value}
-use Rattle.flight_render.specs.Costs.{In, Reached, in_slot}
+use Rattle.flight_value.specs.Listed.{In}
+use Rattle.flight_render.specs.Costs.{Reached, in_slot}
 use Rattle.flight_render.proofs.Sourced.{each_at}
 use Rattle.flight_seq.specs.declared.held.Held.{Held}
 use Rattle.flight_seq.specs.declared.held.Shape as held

@@ -16,7 +16,8 @@ use Rattle.flight_render.specs.Run.{Run}
 use Rattle.flight_render.specs.Bodies.{inner, Finishes}
 use Rattle.flight_render.specs.Jobs.{Job, the_root, element, outcome, known, blank, Value, job_of, job_body, comes, value_of, Leads, target_of}
 use Rattle.flight_render.specs.Plain.{NodeIs}
-use Rattle.flight_render.specs.Costs.{In, Reached, at_root, through, in_slot, address_of, Rendered, Total, BodyOver, IsOver}
+use Rattle.flight_value.specs.Listed.{In}
+use Rattle.flight_render.specs.Costs.{Reached, at_root, through, in_slot, address_of, Rendered, Total, BodyOver, IsOver}
 use Rattle.flight_render.proofs.Reaches.{one_node}
 use Rattle.flight_render.proofs.Sums.{total-within}
 use Rattle.flight_seq.specs.declared.known.Known.{Known}

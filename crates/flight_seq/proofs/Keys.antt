@@ -3,7 +3,7 @@ use Rattle.std.proofs.Common.{rules, true, false, Bool, ◌||◌, ◌≡◌, ◌
 use Rattle.std.specs.List.{list_any}
 use Rattle.flight_value.specs.declared.key.Key.{Key}
 use Rattle.flight_value.specs.contracts.key.KeyPartialEq.TheImpl.{eq-value}
-use Rattle.flight_render.specs.Costs.{In}
+use Rattle.flight_value.specs.Listed.{In}
 use Rattle.flight_seq.specs.Walk.{Adds}
 
 pub key_same : (x : Key) → eq-value.it x x ≡ true

@@ -6,7 +6,8 @@ use Rattle.std.proofs.lemmas.Option.{none-some}
 use Rattle.flight_render.specs.declared.root.Ground.{Ground}
 use Rattle.flight_render.specs.Run.{End}
 use Rattle.flight_render.specs.Bodies.{Finishes}
-use Rattle.flight_render.specs.Costs.{In, Distinct, Rendered, IsOver, total_of}
+use Rattle.flight_value.specs.Listed.{In, Distinct}
+use Rattle.flight_render.specs.Costs.{Rendered, IsOver, total_of}
 use Rattle.flight_render.proofs.Sourced.{each_append}
 use Rattle.flight_eval.specs.declared.body.Gave.{Gave}
 use Rattle.flight_eval.specs.declared.body.Gave.TheVariants as gives

@@ -19,7 +19,8 @@ use Rattle.flight_value.specs.Store.{Shape, Target, SlotsFit, NodesFit, Paired, 
 use Rattle.flight_render.specs.declared.root.Ground.{Ground}
 use Rattle.flight_render.specs.Jobs.{Value, shown, of_job, failed, stopped, the_root, job_of, Leads, target_of}
 use Rattle.flight_render.specs.Plain.{NodeIs, plain}
-use Rattle.flight_render.specs.Costs.{In, Distinct, Reached, at_root, in_slot}
+use Rattle.flight_value.specs.Listed.{In, Distinct}
+use Rattle.flight_render.specs.Costs.{Reached, at_root, in_slot}
 use Rattle.flight_render.specs.Valid.{IsValidGround, ShowsKnown}
 use Rattle.flight_render.proofs.Closed.{reached_known}
 use Rattle.flight_render.proofs.Sourced.{each_at}

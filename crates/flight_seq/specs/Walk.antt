@@ -15,7 +15,8 @@ use Rattle.flight_render.specs.Run as run
 use Rattle.flight_render.specs.Run.{waits, Run}
 use Rattle.flight_render.specs.Bodies.{inner, body_at, tables_at}
 use Rattle.flight_render.specs.Jobs.{Job, the_root, element, Value, job_of, comes, IsTarget}
-use Rattle.flight_render.specs.Costs.{In, Distinct, Reached, address_of, total_of}
+use Rattle.flight_value.specs.Listed.{In, Distinct}
+use Rattle.flight_render.specs.Costs.{Reached, address_of, total_of}
 use Rattle.flight_render.specs.Attempt.{job_for, run_for}
 use Rattle.flight_render.specs.Valid.{IsWhat}
 use Rattle.flight_eval.specs.declared.body.Body.{Body}

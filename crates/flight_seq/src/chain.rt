@@ -47,7 +47,7 @@ impl Walk {
     {
         match self.known(address) {
             Some(Known::Finished { inside, .. }) => inside.share(),
-            Some(Known::Waits { .. }) | None => Err(Memory),
+            Some(Known::Waits { .. }) | None => Err(Memory::past_limit()),
         }
     }
 
@@ -116,7 +116,7 @@ impl Walk {
         ensures { IfOk result (IsTurn ground.now seen.now.settled fuel (shown (tree.Made name)) self.old self.new) }
     {
         let Some(made) = self.made(&name) else {
-            return Err(Memory);
+            return Err(Memory::past_limit());
         };
         if !is_server(made) {
             return self.stand(Key::Made(name));
@@ -197,7 +197,7 @@ impl Walk {
                 Turn::Over => return Ok(None),
             }
         }
-        Err(Memory)
+        Err(Memory::past_limit())
     }
 
     /// What a slot holds first. None where the rendering is over the fuel.

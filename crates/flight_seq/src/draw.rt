@@ -106,7 +106,7 @@ impl Walk {
                 None => return Ok(None),
             }
         }
-        Err(Memory)
+        Err(Memory::past_limit())
     }
 }
 
@@ -116,6 +116,6 @@ pub fn within(count: usize) -> Result<(), Memory>
 {
     match u32::try_from(count) {
         Ok(_) => Ok(()),
-        Err(_) => Err(Memory),
+        Err(_) => Err(Memory::past_limit()),
     }
 }

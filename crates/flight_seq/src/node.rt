@@ -39,13 +39,13 @@ fn props(alloc: Global, names: List<Text>, slots: Vec<Slot>) -> Result<List<Prop
     let mut props = Vec::new(alloc);
     for slot in slots {
         let Some(name) = names.next() else {
-            return Err(Memory);
+            return Err(Memory::past_limit());
         };
         props.push(Prop { name, slot })?;
     }
     match names.next() {
         None => Ok(List::new(props)),
-        Some(_) => Err(Memory),
+        Some(_) => Err(Memory::past_limit()),
     }
 }
 
@@ -60,11 +60,11 @@ fn pairs(alloc: Global, slots: Vec<Slot>) -> Result<List<Pair>, Memory>
             return Ok(List::new(pairs));
         };
         let Some(value) = slots.next() else {
-            return Err(Memory);
+            return Err(Memory::past_limit());
         };
         pairs.push(Pair { key, value })?;
     }
-    Err(Memory)
+    Err(Memory::past_limit())
 }
 
 /// An element of three slots: tag, key and props.
@@ -74,10 +74,10 @@ fn element(slots: Vec<Slot>) -> Result<Node, Memory>
 {
     let mut slots = slots;
     let Some(props) = slots.pop() else {
-        return Err(Memory);
+        return Err(Memory::past_limit());
     };
     let Some(key) = slots.pop() else {
-        return Err(Memory);
+        return Err(Memory::past_limit());
     };
     let tag = only(slots)?;
     Ok(Node::Element { tag, key, props })
@@ -110,7 +110,7 @@ fn closed(flow: Flow, slots: Vec<Slot>) -> Result<Node, Memory>
 {
     let mut items = slots;
     let Some(last) = items.pop() else {
-        return Err(Memory);
+        return Err(Memory::past_limit());
     };
     Ok(Node::Stream {
         flow,
@@ -125,11 +125,11 @@ fn only(slots: Vec<Slot>) -> Result<Slot, Memory>
 {
     let mut slots = slots;
     let Some(slot) = slots.pop() else {
-        return Err(Memory);
+        return Err(Memory::past_limit());
     };
     if slots.is_empty() {
         Ok(slot)
     } else {
-        Err(Memory)
+        Err(Memory::past_limit())
     }
 }

@@ -83,7 +83,7 @@ pub fn plain(alloc: Global, ground: &Ground, seen: &Seen) -> Result<Graph, Memor
 {
     match rendered(alloc, ground, seen, 1_000_000)? {
         Rendered::Within { graph, .. } => Ok(graph),
-        Rendered::Over => Err(Memory),
+        Rendered::Over => Err(Memory::past_limit()),
     }
 }
 

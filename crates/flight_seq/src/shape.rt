@@ -31,11 +31,11 @@ impl Walk {
         match key {
             Key::Made(name) => match self.made(name) {
                 Some(made) => shape_of_made(alloc, ground, made),
-                None => Err(Memory),
+                None => Err(Memory::past_limit()),
             },
             Key::Source { source, node } => match source_node(ground, *source, *node) {
                 Some(found) => source_shape(alloc, *source, found),
-                None => Err(Memory),
+                None => Err(Memory::past_limit()),
             },
             Key::Settled { source } => shape_with(
                 alloc,
@@ -44,14 +44,14 @@ impl Walk {
             ),
             Key::Stream { stream } => match stream_at(ground, *stream) {
                 Some(flowing) => flow_of(alloc, ground, seen, flowing),
-                None => Err(Memory),
+                None => Err(Memory::past_limit()),
             },
             Key::Action { action } => shape_with(
                 alloc,
                 Label::Action(name_of_action(alloc, ground, *action)?),
                 Held::Tree(Tree::Atom(Atom::Null)),
             ),
-            Key::Client { .. } | Key::Symbol(_) | Key::Server(_) => Err(Memory),
+            Key::Client { .. } | Key::Symbol(_) | Key::Server(_) => Err(Memory::past_limit()),
         }
     }
 }
@@ -103,7 +103,7 @@ fn label_made(alloc: Global, ground: &Ground, kind: &MadeKind) -> Result<Label, 
         MadeKind::Map => Ok(Label::Map),
         MadeKind::Set => Ok(Label::Set),
         MadeKind::Element => Ok(Label::Element),
-        MadeKind::Server { .. } => Err(Memory),
+        MadeKind::Server { .. } => Err(Memory::past_limit()),
         MadeKind::Promise => Ok(Label::Promise),
         MadeKind::Bound { action } => { Ok(Label::Action(name_of_action(alloc, ground, *action)?)) }
     }

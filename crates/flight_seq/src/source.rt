@@ -71,7 +71,7 @@ pub fn argument(ground: &Ground, slot: &Slot) -> Result<Tree, Memory>
         Root::App => Ok(Tree::Atom(Atom::Undefined)),
         Root::Call { .. } => match u32::try_from(ground.script.sources.as_slice().len()) {
             Ok(source) => tree_from(source, slot),
-            Err(_) => Err(Memory),
+            Err(_) => Err(Memory::past_limit()),
         },
     }
 }

@@ -48,7 +48,7 @@ fn tried(alloc: Global, ground: &Ground, job: &Job, fuel: u32) -> Result<Option<
     match attempt(alloc, ground, job, fuel)? {
         Attempt::Finished { bodies } => match bodies.into_vec().pop() {
             Some(body) => Ok(Some(finished(alloc, body)?)),
-            None => Err(Memory),
+            None => Err(Memory::past_limit()),
         },
         Attempt::Waits { source } => Ok(Some(Known::Waits { source })),
         Attempt::OverFuel => Ok(None),
@@ -173,7 +173,7 @@ impl Walk {
         }
         match self.known(address) {
             Some(known) => Ok(Some(known.end()?)),
-            None => Err(Memory),
+            None => Err(Memory::past_limit()),
         }
     }
 }

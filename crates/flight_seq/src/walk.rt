@@ -68,7 +68,7 @@ impl Walk {
         let (number, _) = self.keys.insert_full(key)?;
         match u32::try_from(number) {
             Ok(number) => Ok(number),
-            Err(_) => Err(Memory),
+            Err(_) => Err(Memory::past_limit()),
         }
     }
 }

@@ -55,7 +55,7 @@ pub fn is_string(alloc: Global, text: &[u8]) -> Result<bool, Memory>
 {
     match Value::from_slice(alloc, text) {
         Ok(value) => Ok(value.is_string()),
-        Err(error) if error.is_memory() => Err(Memory),
+        Err(error) if error.is_memory() => Err(Memory::past_limit()),
         Err(_) => Ok(false),
     }
 }
@@ -69,6 +69,6 @@ pub fn string_of(alloc: Global, literal: &[u8]) -> Result<Text, Memory>
     match Value::from_slice(alloc, literal) {
         Ok(Value::String(value)) => Text::from_string(value),
         Ok(_) => unreachable!(),
-        Err(_) => Err(Memory),
+        Err(_) => Err(Memory::past_limit()),
     }
 }

@@ -4,8 +4,8 @@ use Rattle.flight_graph.specs.Text.{string_text}
 use Rattle.flight_syntax.specs.declared.token.LexFault.{LexFault}
 use Rattle.flight_syntax.specs.declared.token.LexKind.{LexKind}
 use Rattle.flight_syntax.specs.declared.token.LexKind.TheVariants as lex
-use Rattle.flight_parse.specs.declared.fault.ParseFault.{ParseFault}
-use Rattle.flight_parse.specs.declared.fault.ParseFault.TheVariants as parse
+use Rattle.flight_resolve.specs.declared.fault.ParseFault.{ParseFault}
+use Rattle.flight_resolve.specs.declared.fault.ParseFault.TheVariants as parse
 use Rattle.flight_script.specs.declared.fault.ScriptFault.{ScriptFault}
 use Rattle.flight_script.specs.declared.fault.ScriptFault.TheVariants as script
 use Rattle.flight_bundle.specs.declared.fault.BundleFault.{BundleFault}

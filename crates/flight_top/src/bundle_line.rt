@@ -4,7 +4,7 @@ ghost use Rattle.flight_top.specs.BundleLines.{at_place, lex_words, program_word
 
 use flight_bundle::BundleFault;
 use flight_graph::{Writer, write_string};
-use flight_parse::ParseFault;
+use flight_resolve::ParseFault;
 use flight_script::ScriptFault;
 use flight_syntax::LexKind;
 use flight_value::{Memory, Text};

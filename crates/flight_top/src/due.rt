@@ -34,7 +34,7 @@ pub fn line(alloc: Global, status: Status, text: &str) -> Result<Due, Undue>
 {
     match Text::new(alloc, text) {
         Ok(text) => Ok(Due { status, text }),
-        Err(Memory) => Err(Undue::Memory),
+        Err(_) => Err(Undue::Memory),
     }
 }
 

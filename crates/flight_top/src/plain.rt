@@ -54,12 +54,12 @@ fn plain_ground(alloc: Global, fuel: u32, ground: &Ground) -> Result<Due, Undue>
 {
     let seen = match scripted(alloc, &ground.script) {
         Ok(seen) => seen,
-        Err(Memory) => return Err(Undue::Memory),
+        Err(_) => return Err(Undue::Memory),
     };
     match rendered(alloc, ground, &seen, fuel) {
         Ok(Rendered::Within { graph, .. }) => graph_due(alloc, graph),
         Ok(Rendered::Over) => line(alloc, Status::Fuel, "fuel\n"),
-        Err(Memory) => Err(Undue::Memory),
+        Err(_) => Err(Undue::Memory),
     }
 }
 

@@ -55,7 +55,7 @@ fn static_text(alloc: Global, input: &[u8]) -> Result<Text, Unbuilt>
     match static_json(alloc, input) {
         Ok(value) => match value_text(alloc, &value) {
             Ok(text) => Ok(text),
-            Err(Memory) => Err(Unbuilt::Memory),
+            Err(_) => Err(Unbuilt::Memory),
         },
         Err(Unbuilt::NotBuilt) => Err(Unbuilt::NotBuilt),
         Err(Unbuilt::Memory) => Err(Unbuilt::Memory),

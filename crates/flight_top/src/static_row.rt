@@ -26,7 +26,7 @@ fn root_row(alloc: Global, value: &Value) -> Result<Row, Memory>
 {
     let payload = value.to_string(alloc)?;
     if payload.as_bytes().len() > MOST_PAYLOAD {
-        return Err(Memory);
+        return Err(Memory::past_limit());
     }
     Ok(Row {
         id: 0,
@@ -44,7 +44,7 @@ fn serve(alloc: Global, row: &Row, sink: &mut MemSink) -> Result<(), Memory>
     write_row(row, &mut bytes)?;
     match write_all(sink, &bytes) {
         Ok(()) => Ok(()),
-        Err(_) => Err(Memory),
+        Err(_) => Err(Memory::past_limit()),
     }
 }
 
@@ -60,7 +60,7 @@ fn decode(alloc: Global, input: &[u8]) -> Result<Graph, Memory>
     match model_graph(alloc, payload) {
         Ok(graph) => Ok(graph),
         Err(Refused::NotPlain) => unreachable!(),
-        Err(Refused::Memory) => Err(Memory),
+        Err(Refused::Memory) => Err(Memory::past_limit()),
     }
 }
 

@@ -103,6 +103,6 @@ pub fn told(status: Status, text: Result<Text, Memory>) -> Result<Due, Undue>
 {
     match text {
         Ok(text) => Ok(Due { status, text }),
-        Err(Memory) => Err(Undue::Memory),
+        Err(_) => Err(Undue::Memory),
     }
 }

@@ -2,3 +2,4 @@ pub mod Date
 pub mod Graph
 pub mod Store
 pub mod Held
+pub mod Listed

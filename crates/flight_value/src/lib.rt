@@ -4,8 +4,8 @@
 //! All types are plain data. Contracts see a [`Text`] as its bytes, a [`List`] as its items and a
 //! [`Shared`] as the value behind it, so that `≡` in a clause compares what a user would compare.
 //! `specs/` has what is said of such values everywhere: the slots of a node and when a graph is valid
-//! (`specs/Graph.antt`), the form of a date (`specs/Date.antt`), and stores of nodes, with what it means
-//! that two stores draw one graph (`specs/Store.antt`).
+//! (`specs/Graph.antt`), the form of a date (`specs/Date.antt`), stores of nodes, with what it means that two
+//! stores draw one graph (`specs/Store.antt`), and what stands in a list, and once (`specs/Listed.antt`).
 //!
 //! No function here builds or checks a graph: validity is a definition that the makers of graphs prove.
 #![tactic(auto)]
@@ -19,8 +19,6 @@ mod made;
 mod memory;
 mod name;
 mod shared;
-#[cfg(test)]
-mod tests;
 mod text;
 mod wide;
 

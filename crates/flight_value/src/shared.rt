@@ -37,7 +37,7 @@ impl<T: Drop> Shared<T> {
     {
         match Arc::new(alloc, value) {
             Ok(inner) => Ok(Shared { inner }),
-            Err(_) => Err(Memory),
+            Err(refused) => Err(Memory::from(refused)),
         }
     }
 
@@ -47,7 +47,7 @@ impl<T: Drop> Shared<T> {
     {
         match Arc::try_clone(&self.inner) {
             Ok(inner) => Ok(Shared { inner }),
-            Err(_) => Err(Memory),
+            Err(_) => Err(Memory::past_limit()),
         }
     }
 }

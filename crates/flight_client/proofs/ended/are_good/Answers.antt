@@ -1,5 +1,5 @@
 use Rattle.std.proofs.Common.{◌≡◌, true, false}
-use Rattle.flight_place.specs.Linked.{rows_of}
+use Rattle.flight_meaning.specs.Linked.{rows_of}
 use Rattle.flight_client.proofs.Finishes.{none_unless}
 use Rattle.flight_client.proofs.ended.are_good.Goals as goal
 

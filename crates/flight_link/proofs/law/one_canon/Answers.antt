@@ -1,6 +1,6 @@
 use Rattle.flight_graph.proofs.Drawn.{drawn_one_canon}
-use Rattle.flight_place.specs.Meaning.{meaning}
-use Rattle.flight_place.proofs.OneMeaning.{leads_once, stands_once}
+use Rattle.flight_meaning.specs.Meaning.{meaning}
+use Rattle.flight_meaning.proofs.OneMeaning.{leads_once, stands_once}
 use Rattle.flight_link.proofs.law.one_canon.Goals as goal
 
 pub returns : goal.returns

@@ -2,7 +2,7 @@ use Rattle.std.proofs.Common.{rules, sym, Ok, Err}
 use Rattle.std.proofs.lemmas.Fn.{always_returns_same}
 use Rattle.std.specs.Cmp.Lexicographic.{slice_cmp}
 use Rattle.std.specs.Ordering.{nat_cmp}
-use Rattle.flight_place.specs.declared.place.Named.{Named}
+use Rattle.flight_meaning.specs.declared.place.Named.{Named}
 use Rattle.flight_link.proofs.Searched.{searched_property}
 use Rattle.flight_link.proofs.step.property_of.Goals as goal
 

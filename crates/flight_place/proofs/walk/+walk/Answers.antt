@@ -6,7 +6,7 @@ use Rattle.serde_json.specs.Data.{item, no_items, object}
 use Rattle.flight_place.specs.Faults.{Adds}
 use Rattle.flight_place.proofs.Parsing.{data-Object}
 use Rattle.flight_place.specs.Parsed.{data_of, items_data, members_data}
-use Rattle.flight_place.specs.declared.place.Place.TheVariants.{Array, Object, Element}
+use Rattle.flight_meaning.specs.declared.place.Place.TheVariants.{Array, Object, Element}
 use Rattle.flight_place.specs.Places.{is_marked, is_element, is_key, visits, item_visits, member_visits, item_count, member_count, count, item_numbers, member_numbers}
 use Rattle.flight_place.proofs.Adding.{Leads, leads-end, adds-parts}
 use Rattle.flight_place.proofs.Walks.{four, fewer, more, three, inside, element-marked, element-adds, marked-adds, marked-refuses, not-element, mark-count, items-on, items-refuse, members-on, members-refuse, parts-on, named, same-named}

@@ -1,7 +1,7 @@
 use Rattle.std.proofs.Common.{ap}
 use Rattle.std.proofs.lemmas.Result.{on_ok_weaker}
 use Rattle.flight_value.specs.declared.graph.Atom.TheVariants as atom
-use Rattle.flight_place.specs.declared.place.Place.TheVariants as place
+use Rattle.flight_meaning.specs.declared.place.Place.TheVariants as place
 use Rattle.flight_place.proofs.Plain.{plain-adds}
 use Rattle.flight_place.proofs.walk.push_plain.Goals as goal
 

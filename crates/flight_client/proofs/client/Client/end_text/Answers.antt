@@ -5,7 +5,7 @@ use Rattle.flight_value.specs.Graph.{IsValid}
 use Rattle.flight_value.specs.Store.{DrawOneGraph, of_graph}
 use Rattle.flight_value.specs.declared.graph.Graph.{Graph}
 use Rattle.flight_graph.specs.Text.{text_of}
-use Rattle.flight_place.specs.Meaning.{meaning}
+use Rattle.flight_meaning.specs.Meaning.{meaning}
 use Rattle.flight_client.specs.Held.{HasTaken, Stands, IsOn}
 use Rattle.flight_client.specs.Adding.{IsEndFault}
 use Rattle.flight_client.proofs.Finishes.{on_ends}

@@ -2,8 +2,8 @@ use Rattle.std.proofs.Common.{◌≡◌, Some, sym, ◌∙◌, ap, subst}
 use Rattle.std.specs.Prelude.{IfOk, OnOk}
 use Rattle.std.proofs.lemmas.Result.{IfErr-at_err}
 use Rattle.flight_value.specs.Store.{DrawOneGraph, of_graph}
-use Rattle.flight_place.specs.Meaning.{meaning}
-use Rattle.flight_place.specs.Good.{IsGood}
+use Rattle.flight_meaning.specs.Meaning.{meaning}
+use Rattle.flight_meaning.specs.Good.{IsGood}
 use Rattle.flight_client.specs.Rows.{IsWhole}
 use Rattle.flight_client.specs.Held.{HasTaken, Stands, IsOn}
 use Rattle.flight_client.specs.Adding.{IsEndFault}

@@ -2,7 +2,7 @@ use Rattle.std.proofs.Common.{subst, ap}
 use Rattle.std.specs.Prelude.{IfOk}
 use Rattle.flight_value.specs.Graph.{IsValid}
 use Rattle.flight_value.specs.Store.{DrawOneGraph, of_graph}
-use Rattle.flight_place.specs.Meaning.{meaning}
+use Rattle.flight_meaning.specs.Meaning.{meaning}
 use Rattle.flight_client.proofs.client.Client.partial.Goals as goal
 
 pub returns : goal.returns

@@ -1,5 +1,5 @@
 use Rattle.std.proofs.Common.{subst}
-use Rattle.flight_place.specs.Linked.{FollowOn}
+use Rattle.flight_meaning.specs.Linked.{FollowOn}
 use Rattle.flight_link.proofs.links.Links.follow_on.Goals as goal
 
 pub returns : goal.returns

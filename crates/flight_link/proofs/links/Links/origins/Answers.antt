@@ -1,5 +1,5 @@
 use Rattle.std.proofs.Common.{IfOk, List, subst}
-use Rattle.flight_place.specs.declared.place.PlacedRow.{PlacedRow}
+use Rattle.flight_meaning.specs.declared.place.PlacedRow.{PlacedRow}
 use Rattle.flight_link.specs.Origins.{AreOrigins}
 use Rattle.flight_link.proofs.links.Links.origins.Goals as goal
 

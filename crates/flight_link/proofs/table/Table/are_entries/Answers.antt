@@ -1,7 +1,7 @@
 use Rattle.std.proofs.Common.{◌≡◌, ◌<◌, ◌+◌, ◌∙◌, sym, ap, true, false, length, drop, get_or, rules}
 use Rattle.std.proofs.lemmas.List.{drop_more}
 use Rattle.std.specs.Prelude.{is_some}
-use Rattle.flight_place.specs.Meaning.{entries}
+use Rattle.flight_meaning.specs.Meaning.{entries}
 use Rattle.flight_link.specs.Nodes.{spot_of}
 use Rattle.flight_link.proofs.Defined.{entries_go, entries_stop}
 use Rattle.flight_link.proofs.table.Table.are_entries.Goals as goal

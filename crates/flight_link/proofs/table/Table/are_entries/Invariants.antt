@@ -1,6 +1,6 @@
 use Rattle.std.proofs.Common.{◌≡◌, drop}
 use Rattle.std.specs.Prelude.{is_some}
-use Rattle.flight_place.specs.Meaning.{entries}
+use Rattle.flight_meaning.specs.Meaning.{entries}
 use Rattle.flight_link.specs.Nodes.{spot_of}
 use Rattle.flight_link.proofs.table.Table.are_entries.Given as goal
 

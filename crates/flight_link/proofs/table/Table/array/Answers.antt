@@ -1,6 +1,6 @@
 use Rattle.std.proofs.Common.{rules, ◌<◌, ◌^◌, length, sym, subst}
 use Rattle.flight_value.specs.declared.graph.Node.TheVariants as node
-use Rattle.flight_place.specs.Meaning.{made_at}
+use Rattle.flight_meaning.specs.Meaning.{made_at}
 use Rattle.flight_link.specs.Nodes.{spot_of}
 use Rattle.flight_link.specs.Drawing.{DrawsNode}
 use Rattle.flight_link.proofs.Drawing.{array_node}

@@ -1,5 +1,5 @@
 use Rattle.std.proofs.Common.{rules}
-use Rattle.flight_place.specs.Meaning.{value_of}
+use Rattle.flight_meaning.specs.Meaning.{value_of}
 use Rattle.flight_link.proofs.Drawing.{draws_grow, apart}
 use Rattle.flight_link.proofs.table.Table.draw.Goals as goal
 

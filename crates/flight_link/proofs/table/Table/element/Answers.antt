@@ -1,5 +1,5 @@
-use Rattle.flight_place.specs.Meaning.{at_place}
-use Rattle.flight_place.specs.Linked.{beside}
+use Rattle.flight_meaning.specs.Meaning.{at_place}
+use Rattle.flight_meaning.specs.Linked.{beside}
 use Rattle.flight_link.specs.Nodes.{spot_of}
 use Rattle.flight_link.proofs.Drawing.{element_node, draws_grow, grows_on}
 use Rattle.flight_link.proofs.table.Table.element.Goals as goal

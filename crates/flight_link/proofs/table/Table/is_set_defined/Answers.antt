@@ -1,6 +1,6 @@
 use Rattle.std.proofs.Common.{subst, sym, ◌∙◌}
 use Rattle.std.proofs.lemmas.Bool.{false≢true}
-use Rattle.flight_place.specs.Meaning.{set_token}
+use Rattle.flight_meaning.specs.Meaning.{set_token}
 use Rattle.flight_link.specs.declared.node.State.TheVariants.{Ended}
 use Rattle.flight_link.specs.Waiting.{IsResolved}
 use Rattle.flight_link.proofs.Defined.{token_ended, token_never}

@@ -1,6 +1,6 @@
 use Rattle.std.proofs.Common.{Some, slice_get, sym, ap, subst, ◌∙◌}
 use Rattle.std.specs.Prelude.{option_copied}
-use Rattle.flight_place.specs.declared.place.Place.TheVariants as place
+use Rattle.flight_meaning.specs.declared.place.Place.TheVariants as place
 use Rattle.flight_link.specs.Slots.{IsThere, beside}
 use Rattle.flight_link.proofs.Slots.{number_there}
 use Rattle.flight_link.proofs.table.Table.item_slot.Goals as goal

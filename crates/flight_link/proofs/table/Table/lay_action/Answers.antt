@@ -1,8 +1,8 @@
 use Rattle.std.proofs.Common.{rules, ◌≡◌, codes, Some, slice_get, refl}
 use Rattle.flight_value.specs.declared.graph.Atom.TheVariants as atom
-use Rattle.flight_place.specs.declared.place.Place.TheVariants as place
-use Rattle.flight_place.specs.Resolve.{property}
-use Rattle.flight_place.specs.Meaning.{Reference, reference_of}
+use Rattle.flight_meaning.specs.declared.place.Place.TheVariants as place
+use Rattle.flight_meaning.specs.Resolve.{property}
+use Rattle.flight_meaning.specs.Meaning.{Reference, reference_of}
 use Rattle.flight_link.proofs.LaidOut.{action_laid}
 use Rattle.flight_link.proofs.table.Table.lay_action.Goals as goal
 

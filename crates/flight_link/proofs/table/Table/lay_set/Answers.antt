@@ -1,5 +1,5 @@
 use Rattle.std.proofs.Common.{rules, ◌≡◌, ◌∙◌, ◌<◌, ◌^◌, Some, length, subst}
-use Rattle.flight_place.specs.declared.place.Place.TheVariants as place
+use Rattle.flight_meaning.specs.declared.place.Place.TheVariants as place
 use Rattle.flight_link.specs.declared.node.State.TheVariants.{Ended}
 use Rattle.flight_link.specs.Nodes.{place_in}
 use Rattle.flight_link.specs.Waiting.{IsResolved}

@@ -1,5 +1,5 @@
 use Rattle.std.proofs.Common.{subst}
-use Rattle.flight_place.specs.Meaning.{map_token}
+use Rattle.flight_meaning.specs.Meaning.{map_token}
 use Rattle.flight_link.specs.declared.node.State.TheVariants.{Ended}
 use Rattle.flight_link.specs.Waiting.{IsResolved}
 use Rattle.flight_link.proofs.Slots.{token_slot, no_token_slot}

@@ -1,6 +1,6 @@
 use Rattle.std.proofs.Common.{◌≡◌, false, length, is_some, rules}
 use Rattle.std.specs.List.{list_any}
-use Rattle.flight_place.specs.declared.place.Place.{Place}
+use Rattle.flight_meaning.specs.declared.place.Place.{Place}
 use Rattle.flight_link.specs.Nodes.{followed}
 use Rattle.flight_link.proofs.Unfollowed.{fresh_empty}
 use Rattle.flight_link.proofs.table.Table.prepare.Goals as goal

@@ -1,6 +1,6 @@
 use Rattle.std.proofs.Common.{Some, sym, ap, subst, ◌∙◌}
 use Rattle.std.specs.Prelude.{option_copied}
-use Rattle.flight_place.specs.Resolve.{property}
+use Rattle.flight_meaning.specs.Resolve.{property}
 use Rattle.flight_link.specs.Slots.{IsThere, beside}
 use Rattle.flight_link.proofs.Slots.{property_there}
 use Rattle.flight_link.proofs.table.Table.property.Goals as goal

@@ -1,6 +1,6 @@
 use Rattle.std.proofs.Common.{◌≡◌, ◌∙◌, ap, Some, List, Option, ℕ, ◌++◌, ◌∷◌, [], length, slice_set, rules, nat_eq, cond}
 use Rattle.flight_link.specs.Known.{known_of}
-use Rattle.flight_place.specs.declared.place.PlacedRow.{PlacedRow}
+use Rattle.flight_meaning.specs.declared.place.PlacedRow.{PlacedRow}
 use Rattle.flight_link.specs.declared.table.Table.{Table}
 use Rattle.flight_link.specs.declared.node.Start.{Start}
 use Rattle.flight_link.specs.declared.node.State.{State}

@@ -1,6 +1,6 @@
 use Rattle.std.proofs.Common.{◌+◌, ◌-◌, ◌≤◌, length, take}
 use Rattle.std.specs.Prelude.{vec_capacity}
-use Rattle.flight_place.specs.Meaning.{at_places}
+use Rattle.flight_meaning.specs.Meaning.{at_places}
 use Rattle.flight_link.specs.Nodes.{spot_of}
 use Rattle.flight_link.specs.Laid.{Adds}
 use Rattle.flight_link.proofs.table.Table.push_slots.Given as goal

@@ -1,7 +1,7 @@
 use Rattle.std.proofs.Common.{rules, ◌≡◌, ◌<◌, ◌^◌, Some, length, sym, subst}
 use Rattle.flight_value.specs.declared.graph.Node.TheVariants as node
-use Rattle.flight_place.specs.declared.place.Place.TheVariants as place
-use Rattle.flight_place.specs.Meaning.{made_at}
+use Rattle.flight_meaning.specs.declared.place.Place.TheVariants as place
+use Rattle.flight_meaning.specs.Meaning.{made_at}
 use Rattle.flight_link.specs.declared.node.State.TheVariants.{Ended}
 use Rattle.flight_link.specs.Nodes.{place_in, spot_of}
 use Rattle.flight_link.specs.Waiting.{IsResolved}

@@ -1,7 +1,7 @@
 use Rattle.std.proofs.Common.{Some, sym, ap, subst, ◌∙◌}
 use Rattle.std.specs.Prelude.{option_copied}
 use Rattle.std.proofs.lemmas.Option.{none-some}
-use Rattle.flight_place.specs.Meaning.{made_at, map_token, set_token}
+use Rattle.flight_meaning.specs.Meaning.{made_at, map_token, set_token}
 use Rattle.flight_link.specs.Nodes.{spot_of}
 use Rattle.flight_link.specs.Slots.{IsSlotAt, IsThere, beside}
 use Rattle.flight_link.proofs.Slots.{token_slot_at, plain_slot, no_token, number_there}

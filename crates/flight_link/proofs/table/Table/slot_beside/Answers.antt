@@ -1,6 +1,6 @@
 use Rattle.std.proofs.lemmas.Result.{IfOk-weaker}
-use Rattle.flight_place.specs.Linked.{beside}
-use Rattle.flight_place.specs.Meaning.{Written, at_place}
+use Rattle.flight_meaning.specs.Linked.{beside}
+use Rattle.flight_meaning.specs.Meaning.{Written, at_place}
 use Rattle.flight_link.specs.Nodes.{spot_of}
 use Rattle.flight_link.specs.Drawing.{Draws}
 use Rattle.flight_link.specs.Targets.{IsTargetOf}

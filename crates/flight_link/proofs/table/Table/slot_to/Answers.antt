@@ -1,7 +1,7 @@
 use Rattle.std.proofs.Common.{subst}
 use Rattle.std.proofs.lemmas.Result.{IfOk-weaker}
 use Rattle.flight_value.specs.Store as store
-use Rattle.flight_place.specs.Meaning.{Written, Leads}
+use Rattle.flight_meaning.specs.Meaning.{Written, Leads}
 use Rattle.flight_link.specs.declared.key.NodeKey.TheVariants.{Made}
 use Rattle.flight_link.specs.Drawing.{Draws, identity_of}
 use Rattle.flight_link.specs.Targets.{IsTargetOf}

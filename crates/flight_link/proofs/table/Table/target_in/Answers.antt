@@ -1,5 +1,5 @@
 use Rattle.std.proofs.Common.{Some, ap, ◌∙◌}
-use Rattle.flight_place.specs.declared.place.Place.TheVariants as place
+use Rattle.flight_meaning.specs.declared.place.Place.TheVariants as place
 use Rattle.flight_link.proofs.Targets.{atom_leads, node_target, promise_target}
 use Rattle.flight_link.proofs.table.Table.target_in.Goals as goal
 

@@ -4,7 +4,7 @@ use Rattle.flight_value.specs.Graph.{IsValid}
 use Rattle.flight_value.specs.Store.{DrawOneGraph, of_graph}
 use Rattle.flight_value.specs.declared.graph.Graph.{Graph}
 use Rattle.flight_graph.specs.Text.{text_of}
-use Rattle.flight_place.specs.Meaning.{meaning}
+use Rattle.flight_meaning.specs.Meaning.{meaning}
 use Rattle.flight_link.specs.Drafted.{IsFilled}
 use Rattle.flight_link.proofs.Drawing.{apart}
 use Rattle.flight_link.proofs.Gaps.{draft_keys, filled_under}

@@ -1,6 +1,6 @@
 use Rattle.std.proofs.Common.{◌≡◌, ◌≤◌, ◌<◌, ◌+◌, ◌∙◌, sym, ap, subst, List, ◌++◌, ◌∷◌, [], length, take, arith}
 use Rattle.std.proofs.lemmas.List.{take_all, take_more}
-use Rattle.flight_place.specs.declared.place.Place.{Place}
+use Rattle.flight_meaning.specs.declared.place.Place.{Place}
 use Rattle.flight_link.specs.Least.{IsLeastIn, IsIn}
 use Rattle.flight_link.proofs.Defined.{least_place}
 use Rattle.flight_link.proofs.table.Table.undefined_in.Goals as goal

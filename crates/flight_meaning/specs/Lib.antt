@@ -1,0 +1,5 @@
+pub mod Linked
+pub mod Resolve
+pub mod Meaning
+pub mod Good
+pub mod Lasting

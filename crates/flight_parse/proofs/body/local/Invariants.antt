@@ -1,6 +1,0 @@
-use Rattle.std.proofs.Common.{◌≡◌, map, take}
-use Rattle.flight_parse.specs.Names.{variable_number}
-use Rattle.flight_parse.proofs.body.local.Given as goal
-
-abbrev pub invariant-loop-at : goal.invariant-loop-at
-invariant-loop-at l = l.found ≡ variable_number (map (λ n. n.now.bytes) (take l.at l.locals)) l.name

@@ -1,4 +1,0 @@
-pub mod Code
-pub mod Values
-pub mod Declarations
-pub mod Reports
