@@ -1,0 +1,6 @@
+use Rattle.std.proofs.Common.{◌≡◌, ◌++◌, string_bytes}
+use Rattle.flight_gen.specs.Generated.{each_below, child}
+use Rattle.flight_gen.proofs.program.push_children.Given as goal
+
+abbrev pub invariant-loop-number : goal.invariant-loop-number
+invariant-loop-number l = string_bytes l.out ≡ string_bytes l.fn.out ++ each_below child l.number
