@@ -19,8 +19,6 @@ mod reading;
 mod schedule;
 mod std_sink;
 mod std_source;
-#[cfg(test)]
-mod tests;
 mod writing;
 
 pub use mem_sink::MemSink;

@@ -13,8 +13,6 @@ mod fault;
 mod law;
 mod line;
 mod part;
-#[cfg(test)]
-mod tests;
 
 pub use bundle::{Bundle, read_bundle};
 pub use fault::BundleFault;

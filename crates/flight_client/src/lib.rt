@@ -17,8 +17,6 @@ mod fault;
 mod law;
 mod piece;
 mod rows;
-#[cfg(test)]
-mod tests;
 
 pub use client::Client;
 pub use decode::decode_stream;

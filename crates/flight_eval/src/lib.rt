@@ -12,15 +12,9 @@ mod object;
 mod operators;
 mod parts;
 mod place;
-#[cfg(test)]
-mod shown;
 mod sorted;
-#[cfg(test)]
-mod spelled;
 mod start;
 mod stop;
-#[cfg(test)]
-mod tests;
 mod values;
 mod work;
 

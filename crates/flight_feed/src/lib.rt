@@ -17,8 +17,6 @@ mod head;
 mod payload;
 mod stream;
 mod take;
-#[cfg(test)]
-mod tests;
 
 pub use arrived::Arrived;
 pub use fault::{FeedFault, FeedKind};

@@ -29,10 +29,6 @@ mod law;
 mod print;
 mod rename;
 mod sight;
-#[cfg(test)]
-mod tests;
-#[cfg(test)]
-mod valid;
 mod walk;
 mod writer;
 

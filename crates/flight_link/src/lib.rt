@@ -39,8 +39,6 @@ mod settle;
 mod step;
 mod table;
 mod target;
-#[cfg(test)]
-mod tests;
 mod text;
 mod undefined;
 mod unproved;

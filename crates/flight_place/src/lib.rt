@@ -22,8 +22,6 @@ mod parsed;
 mod placing;
 mod reading;
 mod scratch;
-#[cfg(test)]
-mod tests;
 mod token;
 mod tree;
 mod walk;

@@ -10,8 +10,6 @@ mod expression;
 mod names;
 mod program;
 mod shape;
-#[cfg(test)]
-mod tests;
 mod words;
 
 pub use program::print_program;

@@ -11,8 +11,6 @@
 
 mod row;
 mod tag;
-#[cfg(test)]
-mod tests;
 mod write;
 
 pub use row::{Row, RowKind};

@@ -25,8 +25,6 @@ mod settler;
 mod slot;
 mod source;
 mod stream;
-#[cfg(test)]
-mod tests;
 mod text;
 mod unfit;
 

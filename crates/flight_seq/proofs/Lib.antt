@@ -11,4 +11,3 @@ pub mod Drawings
 pub mod Handled
 pub mod Labels
 pub mod Whole
-pub mod Called

@@ -16,8 +16,6 @@ mod sequential;
 mod shape;
 mod source;
 mod task;
-#[cfg(test)]
-mod tests;
 mod total;
 mod walk;
 

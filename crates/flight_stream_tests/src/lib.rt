@@ -3,4 +3,22 @@
 #![tactic(auto)]
 
 #[cfg(test)]
+mod client;
+#[cfg(test)]
+mod feed;
+#[cfg(test)]
+mod graphs;
+#[cfg(test)]
+mod links;
+#[cfg(test)]
+mod outside;
+#[cfg(test)]
+mod places;
+#[cfg(test)]
+mod rows;
+#[cfg(test)]
+mod strings;
+#[cfg(test)]
+mod valid_graph;
+#[cfg(test)]
 mod values;

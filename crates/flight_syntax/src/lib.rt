@@ -23,8 +23,6 @@ mod piece;
 mod program;
 mod script;
 mod string;
-#[cfg(test)]
-mod tests;
 mod token;
 mod word;
 

@@ -20,8 +20,6 @@ mod number;
 mod read;
 mod reference;
 mod spell;
-#[cfg(test)]
-mod tests;
 
 pub use law::{one_mark, read_again};
 pub use mark::{Mark, Marked, Ref};

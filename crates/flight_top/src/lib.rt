@@ -27,8 +27,6 @@ mod static_program;
 mod static_read;
 mod static_row;
 mod static_word;
-#[cfg(test)]
-mod tests;
 mod told;
 mod view;
 mod words;
