@@ -7,4 +7,8 @@ mod bodies;
 #[cfg(test)]
 mod commands;
 #[cfg(test)]
+mod homes;
+#[cfg(test)]
 mod plain;
+#[cfg(test)]
+mod tasks;

@@ -1,0 +1,173 @@
+-- What is asked of a writer can be done: an atom, and the promise of a source.
+use Rattle.std.proofs.Common.{◌≡◌, ℕ, zero, suc, ◌<◌, Bool, true, false, cond, eqb, eqb-true, eq-eqb, ◌⊎◌, inl, inr, ⊎_elim, List, [], ◌∷◌, ◌++◌, Option, Some, None, option_and_then, refl, sym, ap, ◌∙◌, subst, append-nil, arith}
+use Rattle.std.proofs.lemmas.Option.{none-some, same_Some}
+use Rattle.std.specs.Prelude.{slice_get}
+use Rattle.flight_value.specs.Store as store
+use Rattle.flight_value.specs.Store.{Shape}
+use Rattle.flight_value.specs.declared.graph.Atom.{Atom}
+use Rattle.flight_value.specs.declared.graph.Atom.TheVariants as atom
+use Rattle.flight_value.specs.declared.key.Key.{Key}
+use Rattle.flight_value.specs.declared.key.Key.TheVariants as key
+use Rattle.flight_value.specs.declared.made.Tree.TheVariants as tree
+use Rattle.flight_text.specs.declared.mark.Ref.{Ref}
+use Rattle.flight_row.specs.declared.row.RowKind.{RowKind}
+use Rattle.flight_row.specs.declared.row.RowKind.TheVariants as row
+use Rattle.flight_render.specs.declared.root.Ground.{Ground}
+use Rattle.flight_render.specs.declared.job.What.TheVariants as what
+use Rattle.flight_render.specs.Jobs.{outcome, Value, of_job, shown}
+use Rattle.flight_value.specs.Listed.{In}
+use Rattle.flight_render.specs.Attempt.{job_for}
+use Rattle.flight_state.specs.State.{stream_for}
+use Rattle.flight_meaning.specs.declared.place.Place.{Place}
+use Rattle.flight_meaning.specs.declared.place.Place.TheVariants as place
+use Rattle.flight_meaning.specs.declared.place.PlaceTree.{PlaceTree}
+use Rattle.flight_meaning.specs.declared.place.PlacedRow.{PlacedRow}
+use Rattle.flight_meaning.specs.Linked.{rows_of, Spot, place_at, first_place}
+use Rattle.flight_meaning.specs.Resolve.{go_to}
+use Rattle.flight_meaning.specs.Meaning.{Identity, promise_of, value_of}
+use Rattle.flight_state.specs.Emits.{HasValueRow, IsPlain}
+use Rattle.flight_state.specs.Local as local
+use Rattle.flight_state.specs.Local.{Seen, Homes, Births, IsOnce, EmitsHere}
+use Rattle.flight_state.proofs.LastRows.{rows_of-cons}
+
+-- one row of one place
+abbrev single : ℕ → Place → List PlacedRow
+single id at = record { id = id; tree = record { kind = row.Model; places = at ∷ [] } } ∷ []
+
+single_own : (id : ℕ) (at : Place) → rows_of id (single id at) ≡ record { kind = row.Model; places = at ∷ [] } ∷ []
+single_own id at = rows_of-cons id (record { id = id; tree = record { kind = row.Model; places = at ∷ [] } }) [] ∙ ap (λ b. cond b (record { kind = row.Model; places = at ∷ [] } ∷ []) []) (eq-eqb id id refl)
+
+-- of another id there is none
+single_rows : (id : ℕ) (at : Place) (n : ℕ) → ((n ≡ id) × (rows_of n (single id at) ≡ record { kind = row.Model; places = at ∷ [] } ∷ [])) ⊎ (rows_of n (single id at) ≡ [])
+single_rows id at n = go (eqb id n) refl
+  where
+    go : (b : Bool) → eqb id n ≡ b → ((n ≡ id) × (rows_of n (single id at) ≡ record { kind = row.Model; places = at ∷ [] } ∷ [])) ⊎ (rows_of n (single id at) ≡ [])
+    go true e = let same = eqb-true id n e in inl (sym same, subst (λ z. rows_of z (single id at) ≡ record { kind = row.Model; places = at ∷ [] } ∷ []) same (single_own id at))
+    go false e = inr (rows_of-cons n (record { id = id; tree = record { kind = row.Model; places = at ∷ [] } }) [] ∙ ap (λ b. cond b (record { kind = row.Model; places = at ∷ [] } ∷ []) []) e)
+
+IsClose : RowKind → Type 0
+IsClose row.Close = Unit {0}
+IsClose k = ⊥
+
+single_once : (id : ℕ) (at : Place) (n : ℕ) → IsOnce (rows_of n (single id at))
+unfolding IsClose
+single_once id at n = ⊎_elim (λ e. subst IsOnce (sym e.1) (λ q. subst IsClose (sym q) tt)) (λ e. subst IsOnce (sym e) tt) (single_rows id at n)
+
+single_place : (id : ℕ) (at : Place) → place_at (single id at) (first_place id) ≡ Some at
+single_place id at = ap (λ ts. option_and_then (λ (t : PlaceTree). slice_get t.places 0) (slice_get ts 0)) (single_own id at)
+
+single_value : (id : ℕ) (at : Place) → HasValueRow (single id at) id
+single_value id at = ap (λ ts. go_to id ts []) (single_own id at)
+
+-- the one place is the root
+single_only : (id : ℕ) (at : Place) (s : Spot) (p : Place) → place_at (single id at) s ≡ Some p → (s ≡ first_place id) × (p ≡ at)
+single_only id at s p h = ⊎_elim (λ e. by s.id e.0 s.nth s.at (sym (ap (λ ts. look s.nth s.at ts) e.1) ∙ h)) (λ e. absurd (none-some p (sym (ap (λ ts. look s.nth s.at ts) e) ∙ h))) (single_rows id at s.id)
+  where
+    look : ℕ → ℕ → List PlaceTree → Option Place
+    look nth n ts = option_and_then (λ (t : PlaceTree). slice_get t.places n) (slice_get ts nth)
+
+    by : (i : ℕ) → i ≡ id → (nth n : ℕ) → option_and_then (λ (t : PlaceTree). slice_get t.places n) (slice_get (record { kind = row.Model; places = at ∷ [] } ∷ []) nth) ≡ Some p → (◌≡◌ {A = Spot} (record { id = i; nth = nth; at = n }) (first_place id)) × (p ≡ at)
+    by i e zero zero q = (ap (λ z. record { id = z; nth = 0; at = 0 }) e, sym (same_Some at p q))
+    by i e zero (suc n) q = absurd (none-some p q)
+    by i e (suc nth) n q = absurd (none-some p q)
+
+-- an atom is one row, and nothing else
+pub atom_here : (g : Ground) (seen : Seen) (a : Atom) → ¬ (a ≡ atom.Pending) → (id start : ℕ) (homes : Homes) → EmitsHere g seen (shown (tree.Atom a)) id start start homes homes (single id (place.Atom a)) [] ((first_place id, shown (tree.Atom a)) ∷ [])
+atom_here g seen a sure id start homes =
+    record {
+      own = (single_value id (place.Atom a), inl refl);
+      adds = record {
+        up = omega arith;
+        once = single_once id (place.Atom a);
+        row_fresh = λ n h. ⊎_elim (λ e. inl e.0) (λ e. absurd (h e)) (single_rows id (place.Atom a) n);
+        held = λ s at h. inl (subst IsPlain (sym (single_only id (place.Atom a) s at h).1) tt);
+        more = [];
+        homes = sym (append-nil homes);
+        new_key = λ k x y i j. i;
+        one_home = λ k x y i j. absurd i;
+        one_key = λ k l x y n i j p q. absurd i;
+        home_fresh = λ k x n i p. absurd i;
+        row_fresh_key = λ k x r i. absurd i;
+        one_row_key = λ k l x y r q i. absurd i;
+        is_home = λ k x i. absurd i;
+        places = λ s v i. ⊎_elim (λ e. (place.Atom a, ap (λ z. place_at (single id (place.Atom a)) z.0) e ∙ single_place id (place.Atom a), subst (λ z. local.WrittenHere g seen homes [] (single id (place.Atom a)) (Some s) (place.Atom a) z) (sym (ap (λ z. z.1) e)) (local.an_atom a refl refl sure))) (λ k. absurd k) i;
+        born_once = tt;
+        born_fresh = λ u w i. absurd i;
+        born_met = λ u w i. absurd i;
+        born_tables = λ u w i. absurd i;
+        unwritten = λ u w i. absurd i;
+        for_stream = λ u w n i. absurd i;
+      };
+    }
+
+-- the promise of a source is one row, one home and one task
+abbrev promise_home : ℕ → ℕ → Key × Ref
+promise_home source id = (key.Settled source, record { id = id; path = [] })
+
+pub promise_here : (g : Ground) (seen : Seen) (source id start : ℕ) (homes : Homes) → id < start → ((a : Ref) → In (key.Settled source, a) homes → ⊥)
+    → EmitsHere g seen (shown (tree.Promise source)) id start (suc start) homes (homes ++ promise_home source start ∷ []) (single id (place.Promise start)) ((start, what.Promise source) ∷ []) ((first_place id, shown (tree.Promise source)) ∷ [])
+promise_here g seen source id start homes low new =
+    record {
+      own = (single_value id (place.Promise start), inl refl);
+      adds = record {
+        up = omega arith;
+        once = single_once id (place.Promise start);
+        row_fresh = λ n h. ⊎_elim (λ e. inl e.0) (λ e. absurd (h e)) (single_rows id (place.Promise start) n);
+        held = λ s at h. let e = single_only id (place.Promise start) s at h in inr (shown (tree.Promise source), inl (ap (λ z. (z, shown (tree.Promise source))) e.0));
+        more = promise_home source start ∷ [];
+        homes = refl;
+        new_key = λ k x y i j. new y (subst (λ z. In (z, y) homes) (only k x i).0 j);
+        one_home = λ k x y i j. (only k x i).1 ∙ sym (only k y j).1;
+        one_key = λ k l x y n i j p q. (only k x i).0 ∙ sym (only l y j).0;
+        home_fresh = λ k x n i p. fresh k x n (only k x i) p;
+        row_fresh_key = λ k x r i. absurd (subst local.IsRowKey (only k x i).0 r);
+        one_row_key = λ k l x y r q i j same. absurd (subst local.IsRowKey (only k x i).0 r);
+        is_home = λ k x i. subst (λ z. local.HomeHere g seen (single id (place.Promise start)) ((start, what.Promise source) ∷ []) ((first_place id, shown (tree.Promise source)) ∷ []) z x) (sym (only k x i).0)
+            (subst (local.HomeHere g seen (single id (place.Promise start)) ((start, what.Promise source) ∷ []) ((first_place id, shown (tree.Promise source)) ∷ []) (key.Settled source)) (sym (only k x i).1) home);
+        places = λ s v i. ⊎_elim (λ e. (place.Promise start, ap (λ z. place_at (single id (place.Promise start)) z.0) e ∙ single_place id (place.Promise start), subst (λ z. local.WrittenHere g seen (homes ++ promise_home source start ∷ []) (promise_home source start ∷ []) (single id (place.Promise start)) (Some s) (place.Promise start) z) (sym (ap (λ z. z.1) e)) (written (Some s)))) (λ k. absurd k) i;
+        born_once = (λ i. i, tt);
+        born_fresh = λ u w i. ⊎_elim (λ e. (omega (arith, ap (λ z. z.0) e), omega (arith, ap (λ z. z.0) e))) (λ k. absurd k) i;
+        born_met = λ u w i. ⊎_elim (λ e. subst (λ z. local.MetBy g seen (shown (tree.Promise source)) (job_for g z) (stream_for z)) (sym (ap (λ z. z.1) e)) met) (λ k. absurd k) i;
+        born_tables = λ u w i. ⊎_elim (λ e. subst (local.TablesHere seen) (sym (ap (λ z. z.1) e)) tt) (λ k. absurd k) i;
+        unwritten = λ u w i alone. ⊎_elim (λ e. ⊎_elim (λ x. absurd (omega (arith, low, x.0, ap (λ z. z.0) e))) (λ x. x) (single_rows id (place.Promise start) u)) (λ k. absurd k) i;
+        for_stream = λ u w n i e. ⊎_elim (λ x. absurd (none-some n (sym (ap (λ z. stream_for z.1) x) ∙ e))) (λ k. absurd k) i;
+      };
+    }
+  where
+    a : Ref
+    a = record { id = start; path = [] }
+
+    only : (k : Key) (x : Ref) → In (k, x) (promise_home source start ∷ []) → (k ≡ key.Settled source) × (x ≡ record { id = start; path = [] })
+    only k x (inl e) = (ap (λ z. z.0) e, ap (λ z. z.1) e)
+    only k x (inr i) = absurd i
+
+    fresh : (k : Key) (x : Ref) (n : Identity) → (k ≡ key.Settled source) × (x ≡ record { id = start; path = [] }) → local.Names g seen (single id (place.Promise start)) k x n → local.IsNewHome start (suc start) n
+    fresh k x n e p =
+        let q = subst (λ z. local.Names g seen (single id (place.Promise start)) z x n) e.0 p in
+        let label = ap (λ (z : Shape Value). z.label) (sym (same_Some _ q.0 q.1)) in
+        let is : n ≡ promise_of x.id = subst (λ z. local.NamesAt z (single id (place.Promise start)) x n) label q.2 in
+        subst (local.IsNewHome start (suc start)) (sym (is ∙ ap (λ (z : Ref). promise_of z.id) e.1)) (omega arith, omega arith)
+
+    home : local.NodeHere g seen (single id (place.Promise start)) ((start, what.Promise source) ∷ []) ((first_place id, shown (tree.Promise source)) ∷ []) (key.Settled source) (record { id = start; path = [] })
+    home =
+        record {
+          identity = promise_of start;
+          names = (record { label = store.promise; slots = of_job (outcome source) ∷ [] }, refl, refl);
+          lone = tt;
+          here = record { label = store.promise; slots = of_job (outcome source) ∷ [] };
+          there = record { label = store.promise; slots = value_of start ∷ [] };
+          is_here = refl;
+          is_there = refl;
+          labels = refl;
+          slots = (local.at_birth start (what.Promise source) (inl refl) refl tt refl, tt);
+        }
+
+    in_new : (xs : Homes) → In (promise_home source start) (xs ++ promise_home source start ∷ [])
+    in_new [] = inl refl
+    in_new (x ∷ xs) = inr (in_new xs)
+
+    written : (o : Option Spot) → local.WrittenHere g seen (homes ++ promise_home source start ∷ []) (promise_home source start ∷ []) (single id (place.Promise start)) o (place.Promise start) (shown (tree.Promise source))
+    written o = local.a_reference (key.Settled source) (record { id = start; path = [] }) (record { label = store.promise; slots = of_job (outcome source) ∷ [] }) tt refl refl tt (in_new homes) refl refl
+
+    met : local.MetBy g seen (shown (tree.Promise source)) (outcome source) None
+    met = (of_job (outcome source), local.in_slot local.at_first tt refl refl tt refl (inl refl), tt, refl)
