@@ -1,5 +1,5 @@
-use flight_link::{Found, LinkFault, LinkKind, Links, Seen, Spot};
 use flight_graph::{Kind, Label, canon_text};
+use flight_link::{Found, LinkFault, LinkKind, Links, Seen, Spot};
 use flight_meaning::PlaceTree;
 use flight_place::{Manner, places};
 use flight_row::{Row, RowKind};

@@ -44,7 +44,8 @@ fn write_page(alloc: Global, out: &mut PayloadWriter) -> Result<(), Memory> {
     out.end_array()
 }
 
-const PAGE: &str = "[\"$\",\"ul\",null,{\"children\":[\"$L1\",\"$a:props:a\\\"b\",[\"$\",\"$L2\",\"k\",{}]],\"id\":\"$$5\\n\"}]";
+const PAGE: &str =
+    "[\"$\",\"ul\",null,{\"children\":[\"$L1\",\"$a:props:a\\\"b\",[\"$\",\"$L2\",\"k\",{}]],\"id\":\"$$5\\n\"}]";
 
 /// Each kind of atom and of reference.
 fn write_slots(alloc: Global, out: &mut PayloadWriter) -> Result<(), Memory> {
@@ -63,7 +64,8 @@ fn write_slots(alloc: Global, out: &mut PayloadWriter) -> Result<(), Memory> {
     out.end_array()
 }
 
-const SLOTS: &str = "[\"$undefined\",true,-9007199254740991,\"$n-12\",\"é\",\"$Sreact.suspense\",\"$-Infinity\",\"$@7fffffff\",\"$F3\",\"$Q4\",\"$W5\"]";
+const SLOTS: &str =
+    "[\"$undefined\",true,-9007199254740991,\"$n-12\",\"é\",\"$Sreact.suspense\",\"$-Infinity\",\"$@7fffffff\",\"$F3\",\"$Q4\",\"$W5\"]";
 
 /// How long a payload is before it is taken off.
 fn slots_len(alloc: Global) -> Result<usize, Memory> {
@@ -125,7 +127,9 @@ fn writes_values_and_rows(rt: HostRuntime) -> Result<(), Fail> {
     ] {
         let row = found.next().map(|arrived| &arrived.row);
         assert!(rt;
-            row.is_some_and(|row| row.id == id && row.kind == kind && row.payload.as_slice() == payload.as_bytes()),
+            row.is_some_and(|row| row.id == id
+                && row.kind == kind
+                && row.payload.as_slice() == payload.as_bytes()),
             "{payload}"
         );
     }

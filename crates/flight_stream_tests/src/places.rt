@@ -1,6 +1,5 @@
-use flight_place::{
-    Manner, Place, PlaceFault, PlaceKind, PlaceTree, Scratch, one_tree, places, places_with,
-};
+use flight_meaning::{Place, PlaceTree};
+use flight_place::{Manner, PlaceFault, PlaceKind, Scratch, one_tree, places, places_with};
 use flight_row::{Row, RowKind};
 use flight_value::{Flow, List};
 use std::test::Fail;
