@@ -10,8 +10,8 @@ ghost use Rattle.flight_bundle.specs.Bundle.{most_bytes, IsParted, IsBundle, IsS
 use crate::fault::BundleFault;
 use crate::law::read_is_valid;
 use crate::part::parts_of;
-use flight_resolve::{ParseFault, parse};
 use flight_render::{Ground, Root};
+use flight_resolve::{ParseFault, parse};
 use flight_script::{ScriptFault, read_script};
 use flight_syntax::Program;
 use flight_value::List;

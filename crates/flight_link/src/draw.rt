@@ -494,5 +494,9 @@ fn beside(spot: Spot, place: u32) -> Spot
 fn within_half(count: usize) -> Result<(), Memory>
     ensures { OnOk result (count < 2 ^ 31) }
 {
-    if count < 1 << 31 { Ok(()) } else { Err(unproved()) }
+    if count < 1 << 31 {
+        Ok(())
+    } else {
+        Err(unproved())
+    }
 }

@@ -9,12 +9,12 @@ ghost use Rattle.flight_place.specs.Places.{visits, count, item_visits, item_cou
 ghost use Rattle.flight_place.specs.Placing.{Brings, BringsItems, Stops, is_mark_token, is_array_token};
 
 use crate::fault::{PlaceFault, PlaceKind};
-use crate::parsed::Parsed;
 use crate::manner::Manner;
-use flight_meaning::Place;
+use crate::parsed::Parsed;
 use crate::reading::{Unread, read_from, read_items};
 use crate::token::is_dollar;
 use crate::walk::{push, put, unfinished, walk};
+use flight_meaning::Place;
 use flight_value::List;
 use json::{Reader, Token};
 use std::alloc::{AllocError, AllocFailed, Global};

@@ -8,10 +8,10 @@ ghost use Rattle.flight_place.specs.Rows.{model_visits, import_visit, digest_of,
 
 use crate::fault::{PlaceFault, PlaceKind};
 use crate::manner::Manner;
-use flight_meaning::{Place, PlaceTree};
 use crate::placing::{Stop, place_next};
 use crate::reading::{LEVELS, parse};
 use crate::scratch::Scratch;
+use flight_meaning::{Place, PlaceTree};
 use flight_row::{Row, RowKind};
 use flight_text::has_whole_numbers;
 use flight_value::{Atom, List, Text};

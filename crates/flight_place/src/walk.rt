@@ -5,10 +5,10 @@ ghost use Rattle.flight_place.specs.Tokens.{is_plain};
 ghost use Rattle.flight_place.specs.Faults.{Refuses, Adds};
 
 use crate::fault::{PlaceFault, PlaceKind};
-use crate::parsed::Parsed;
 use crate::manner::Manner;
-use flight_meaning::{Named, Place};
+use crate::parsed::Parsed;
 use crate::token::{is_dollar, is_plain, is_text, mark_place, plain_reference, token_place};
+use flight_meaning::{Named, Place};
 use flight_text::{Mark, Ref, whole};
 use flight_value::{Atom, List, Text};
 use std::alloc::Global;

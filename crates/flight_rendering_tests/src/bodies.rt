@@ -55,7 +55,8 @@ fn comes_to(alloc: Global, bundle: &str, fuel: u32) -> Result<String, Memory> {
     shown(alloc, &attempt(alloc, &ground, &job, fuel)?)
 }
 
-const SCRIPT: &str = "\n%%script\n{\"version\":1,\"sources\":{\"r\":{\"value\":1,\"nodes\":[]},\"s\":{\"value\":2,\"nodes\":[]}}}\n";
+const SCRIPT: &str =
+    "\n%%script\n{\"version\":1,\"sources\":{\"r\":{\"value\":1,\"nodes\":[]},\"s\":{\"value\":2,\"nodes\":[]}}}\n";
 
 #[test]
 fn attempts_the_root(rt: HostRuntime) -> Result<(), Fail> {

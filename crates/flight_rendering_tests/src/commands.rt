@@ -1,7 +1,6 @@
 ghost use Rattle.std.specs.Prelude.{◌≡◌, length};
 ghost use Rattle.flight_render.specs.Valid.{IsValidGround};
 
-use flight_top::{Status, flight_alone};
 use flight_base::{MemSink, MemSource};
 use flight_bundle::read_bundle;
 use flight_graph::canon_text;
@@ -9,6 +8,7 @@ use flight_render::Ground;
 use flight_script::{nothing, scripted};
 use flight_seq::{Cost, cost, plain};
 use flight_syntax::Seen;
+use flight_top::{Status, flight_alone};
 use std::test::Fail;
 
 /// The words of a command line.

@@ -31,7 +31,11 @@ fn add(home: &mut Home, key: Key, at: Ref) -> Result<(), Memory> {
 #[test]
 fn keeps_homes_by_their_keys_and_goes_back(rt: HostRuntime) -> Result<(), Fail> {
     let mut home = Home::new(rt.alloc());
-    add(&mut home, made(&rt, [1, 0].as_slice(), 2)?, place(&rt, 3, "a")?)?;
+    add(
+        &mut home,
+        made(&rt, [1, 0].as_slice(), 2)?,
+        place(&rt, 3, "a")?,
+    )?;
     let symbol = Key::Symbol(Text::new(rt.alloc(), "s")?);
     add(&mut home, symbol, place(&rt, 4, "b")?)?;
     assert!(rt; home.len() == 2);

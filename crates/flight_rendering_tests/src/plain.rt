@@ -3,8 +3,8 @@ ghost use Rattle.flight_syntax.specs.Term.{term, binary, variable, atom};
 ghost use Rattle.flight_syntax.specs.declared.expr.Expr.{Expr};
 ghost use Rattle.flight_render.specs.Valid.{IsValidGround};
 
-use flight_seq::{Rendered, plain, rendered};
 use flight_render::{Ground, Root};
+use flight_seq::{Rendered, plain, rendered};
 use flight_syntax::{Declared, Expr, Op, Program, Script, Seen};
 use flight_value::{Atom, Graph, List, Memory, Node, Slot, Text};
 use sqlite_items::Boxed;

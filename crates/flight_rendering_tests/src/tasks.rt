@@ -1,6 +1,6 @@
-use flight_task::Tasks;
 use flight_render::What;
 use flight_state::Status;
+use flight_task::Tasks;
 use std::test::Fail;
 
 #[test]

@@ -9,8 +9,8 @@ ghost use Rattle.flight_resolve.specs.Names.{IsKnown, all_of, names_of};
 
 use crate::body::{Body, variable};
 use crate::tables::find;
-use flight_syntax::{Expr, Op, Postfix, PropExpr, Tag, is_lower};
 use flight_parse::Name;
+use flight_syntax::{Expr, Op, Postfix, PropExpr, Tag, is_lower};
 use flight_value::{Atom, Memory};
 use sqlite_items::{Boxed, Items};
 use std::alloc::Global;

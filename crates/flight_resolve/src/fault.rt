@@ -3,8 +3,8 @@ ghost use Rattle.flight_resolve.specs.Reports.{of_tree, of_name};
 ghost use Rattle.flight_resolve.specs.declared.fault.ParseFault.TheVariants as fault;
 
 use crate::name_fault::NameFault;
-use flight_syntax::LexFault;
 use flight_parse::TreeFault;
+use flight_syntax::LexFault;
 use flight_value::{Memory, Text};
 
 /// Why a text is no program. Places are in bytes of the text.

@@ -7,8 +7,8 @@ ghost use Rattle.flight_resolve.specs.Names.{IsKnown, IsFirst, all_of, scope_of}
 use crate::body::{Body, variable};
 use crate::name_fault::NameFault;
 use crate::tables::find;
-use flight_syntax::is_lower;
 use flight_parse::Name;
+use flight_syntax::is_lower;
 use flight_value::Memory;
 
 /// A name that is no variable in scope.

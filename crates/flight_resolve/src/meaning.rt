@@ -12,8 +12,8 @@ use crate::build::{
     action, action_with, atom, binary, client, element, for_in, if_else, let_in, paren, postfixed,
     throw, variable_of,
 };
-use flight_syntax::{Expr, PairExpr, Postfix, PropExpr};
 use flight_parse::{Entry, Name, Post, Property, Tree};
+use flight_syntax::{Expr, PairExpr, Postfix, PropExpr};
 use flight_value::Memory;
 use sqlite_items::Items;
 use std::alloc::Global;

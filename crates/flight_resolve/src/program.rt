@@ -18,8 +18,8 @@ use crate::meaning::expr_of;
 use crate::name_fault::{NameFault, first_of};
 use crate::repeated::repeated;
 use crate::tables::Tables;
-use flight_syntax::{Declared, Expr, Program};
 use flight_parse::{Declaration, Name, Tree};
+use flight_syntax::{Declared, Expr, Program};
 use flight_value::{List, Memory, Text};
 use std::alloc::Global;
 

@@ -9,8 +9,8 @@ ghost use Rattle.flight_resolve.specs.Reports.{IsParseFault};
 use crate::fault::ParseFault;
 use crate::program::{first_fault, has_app, program};
 use crate::tables::tables_of;
-use flight_syntax::Program;
 use flight_parse::{Declaration, declarations};
+use flight_syntax::Program;
 use std::alloc::Global;
 
 /// The program that a text of at most 1,048,576 bytes is, or its first fault: of its tokens; else of its form; else of
