@@ -13,3 +13,5 @@ pub mod Labels
 pub mod SlotsThere
 pub mod NoPlace
 pub mod OneMark
+pub mod Growing
+pub mod OneSight

@@ -54,3 +54,8 @@ IsWanting placed f = ⊥
 abbrev pub IsEndFault : Fed → List PlacedRow → ClientFault → Type 0
 IsEndFault feed placed (fault.Feed number kind) = (feed.bytes ≢ []) × (number ≡ feed.number) × (kind ≡ Cut)
 IsEndFault feed placed f = (feed.bytes ≡ []) × IsWanting placed f
+
+-- the rows stay, and perhaps more come behind them
+pub record Grows (old new : List PlacedRow) : Type 0 where
+  pub more : List PlacedRow
+  pub added : new ≡ old ++ more

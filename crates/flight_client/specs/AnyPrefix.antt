@@ -10,7 +10,9 @@ use Rattle.flight_graph.specs.Look.{kind_of, slot_along}
 use Rattle.flight_meaning.specs.declared.place.PlacedRow.{PlacedRow}
 use Rattle.flight_meaning.specs.Meaning.{Written, Identity, HasShape}
 use Rattle.flight_link.specs.Looking.{Sight, sees_atom, sees_node, Sees, Shows, IsMark, IsSeen}
+use Rattle.flight_link.specs.declared.found.Seen.{Seen}
 use Rattle.flight_link.specs.declared.found.Seen.TheVariants as seen
+use Rattle.flight_graph.specs.declared.label.Label.TheVariants as look_label
 use Rattle.flight_graph.specs.declared.label.Label as look
 
 -- the slot of a graph holds what is seen: the atom, or a node of the same kind, with the same names, id and end; of what
@@ -43,3 +45,16 @@ NoPlaceStays rows more = (path : List ℕ) → IsSeen rows path seen.NoPlace →
 pub record HasOneMark (rows : List PlacedRow) : Type 0 where
   pub one_mark : (k : Identity) (m n : ℕ) → IsMark rows k m → IsMark rows k n → m ≡ n
   pub one_node : (k l : Identity) (x y : Shape Written) (m : ℕ) → HasShape rows k x → HasShape rows l y → IsMark rows k m → IsMark rows l m → k ≡ l
+
+-- two answers of a look say the same: an atom, a kind of node with its mark, an id that is awaited, or no place
+abbrev pub IsSame : Seen → Seen → Type 0
+IsSame (seen.Label (look_label.Atom a)) (seen.Label (look_label.Atom b)) = a.now ≡ b.now
+IsSame (seen.Label (look_label.Node kind mark)) (seen.Label (look_label.Node other number)) = (kind ≡ other) × (mark ≡ number)
+IsSame (seen.NotYet id) (seen.NotYet other) = id ≡ other
+IsSame seen.NoPlace seen.NoPlace = Unit {0}
+IsSame a b = ⊥
+
+-- an answer that more rows do not change
+abbrev pub IsFinal : Seen → Type 0
+IsFinal (seen.NotYet id) = ⊥
+IsFinal a = Unit {0}

@@ -9,6 +9,7 @@ ghost use Rattle.flight_link.specs.Looking.{IsSeen};
 ghost use Rattle.flight_link.specs.Origins.{AreOrigins};
 ghost use Rattle.flight_client.specs.Rows.{IsWhole};
 ghost use Rattle.flight_client.specs.Faults.{EndsWithFault};
+ghost use Rattle.flight_client.specs.Adding.{Grows};
 ghost use Rattle.flight_client.specs.Held.{HasTaken};
 ghost use Rattle.flight_client.specs.declared.fault.ClientFault.{ClientFault};
 
@@ -59,8 +60,10 @@ impl Client {
     /// Takes the next bytes of the stream: reads, places and links each row that becomes whole, in order. A fault is
     /// that of the first faulty row; the rows before it count. After want of memory a front of the whole rows counts.
     /// Every later call answers the same fault.
+    #[tactic(auto, using(crate::proofs::Growing::same_grow))]
     pub fn feed(&mut self, piece: &[u8]) -> Result<(), ClientFault>
         ensures taken { (text : List ℕ) → HasTaken text self.old → HasTaken (text ++ piece.now) self.new }
+        ensures grows { Grows self.old.rows self.new.rows }
         ensures fine { OnOk result (self.new.fault ≡ None) }
         ensures kept { IfErr result (λ f. self.new.fault ≡ Some f) }
         ensures again { (f : ClientFault) → self.old.fault ≡ Some f → (result ≡ Err f) × (self.new ≡ self.old) }

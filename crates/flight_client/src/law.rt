@@ -3,8 +3,10 @@ ghost use Rattle.flight_value.specs.Store.{DrawOneGraph, of_graph};
 ghost use Rattle.flight_value.specs.declared.graph.Graph.{Graph};
 ghost use Rattle.flight_meaning.specs.declared.place.PlacedRow.{PlacedRow};
 ghost use Rattle.flight_meaning.specs.Meaning.{Written, meaning};
-ghost use Rattle.flight_link.specs.Looking.{Sight, Sees};
-ghost use Rattle.flight_client.specs.AnyPrefix.{HasOneMark, LabelsStay, Lasts, NoPlaceStays, ShowsAlike};
+ghost use Rattle.flight_link.specs.Looking.{Sight, Sees, IsSeen};
+ghost use Rattle.flight_link.specs.declared.found.Seen.{Seen};
+ghost use Rattle.flight_client.specs.Adding.{Grows};
+ghost use Rattle.flight_client.specs.AnyPrefix.{HasOneMark, IsFinal, IsSame, LabelsStay, Lasts, NoPlaceStays, ShowsAlike};
 ghost use Rattle.flight_client.specs.OneReading.{HasOneReading, HasOneEnd};
 
 /// A law, which does nothing: a stream has one reading, whatever the pieces in which it comes. What has come of it is
@@ -34,4 +36,11 @@ pub fn no_place_stays()
 /// A law: a node has one mark, and two nodes never have the same.
 pub fn marks_tell_nodes()
     ensures { (rows : List PlacedRow) → HasOneMark rows }
+{}
+
+/// A law: a look has one answer at a path, and a label, with its mark, or that there is no place, which it answered before
+/// a piece came, it answers after it too, since [`crate::Client::feed`] only adds rows.
+pub fn looks_stay()
+    ensures one { (rows : List PlacedRow) (path : List ℕ) (a b : Seen) → IsSeen rows path a → IsSeen rows path b → IsSame a b }
+    ensures stays { (old new : List PlacedRow) (path : List ℕ) (a b : Seen) → Grows old new → IsFinal a → IsSeen old path a → IsSeen new path b → IsSame a b }
 {}

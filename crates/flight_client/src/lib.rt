@@ -21,4 +21,6 @@ mod rows;
 pub use client::Client;
 pub use decode::decode_stream;
 pub use fault::ClientFault;
-pub use law::{labels_stay, marks_tell_nodes, no_place_stays, one_reading, partial_as_seen};
+pub use law::{
+    labels_stay, looks_stay, marks_tell_nodes, no_place_stays, one_reading, partial_as_seen,
+};

@@ -1,4 +1,5 @@
 ghost use Rattle.std.specs.Prelude.{◌≡◌, ◌++◌, ℕ, List, None, OnOk};
+ghost use Rattle.flight_client.specs.Adding.{Grows};
 ghost use Rattle.flight_client.specs.Held.{IsOn, Stands, fault_in};
 
 use crate::fault::ClientFault;
@@ -17,6 +18,7 @@ pub fn take(
     requires { feed.old.fault ≡ None }
     ensures feed { OnOk result (feed.new.fault ≡ None) }
     ensures stands { (text : List ℕ) → IsOn text feed.old links.old → Stands (text ++ piece.now) (fault_in result) feed.new links.new }
+    ensures grows { Grows links.old links.new }
 {
     let mut arrived = Vec::new(alloc);
     match feed.feed(piece, &mut arrived) {

@@ -1,6 +1,6 @@
 ghost use Rattle.std.specs.Prelude.{◌≡◌, ◌∷◌, [], All, IfErr, OnOk, OnErr};
 ghost use Rattle.flight_meaning.specs.Linked.{FollowOn};
-ghost use Rattle.flight_client.specs.Adding.{IsReadable, IsFailure, Adds, StopsAt};
+ghost use Rattle.flight_client.specs.Adding.{IsReadable, IsFailure, Adds, StopsAt, Grows};
 
 use crate::fault::ClientFault;
 use flight_feed::Arrived;
@@ -10,10 +10,12 @@ use std::alloc::Global;
 
 /// Places and links rows that came, in order, up to the first that fails. Each row's bytes are dropped with it, and all
 /// are read in the same memory, which is made where a row came.
+#[tactic(auto, using(crate::proofs::Growing::all_grow, crate::proofs::Growing::adds_grow, crate::proofs::Growing::same_grow))]
 pub fn link_all(alloc: Global, links: &mut Links, arrived: Vec<Arrived>) -> Result<(), ClientFault>
     requires { All IsReadable arrived.items }
     ensures ok { OnOk result (Adds arrived.items links.old links.new) }
     ensures stops { IfErr result (StopsAt arrived.items links.old links.new) }
+    ensures grows { Grows links.old links.new }
 {
     if arrived.is_empty() {
         return Ok(());
