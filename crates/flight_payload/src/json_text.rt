@@ -63,6 +63,7 @@ impl JsonText {
     }
 
     /// Appends a token, if it may be so long then.
+    #[inline(always)]
     pub fn token(&mut self, token: Token<'_>) -> Result<(), Memory>
         requires printable { IsPrintable (token_of token) }
         requires line { IsLineToken (token_of token) }
@@ -147,6 +148,7 @@ fn token_len(token: Token<'_>) -> Result<usize, Memory>
 }
 
 /// How many bytes a text has.
+#[inline(always)]
 fn plain_len(text: &str) -> Result<usize, Memory>
     ensures len { IfOk result (λ n. n ≡ length text.now) }
     ensures few { IfOk result (λ n. n ≤ longest) }
@@ -158,6 +160,7 @@ fn plain_len(text: &str) -> Result<usize, Memory>
 }
 
 /// How many bytes a text has as a JSON string.
+#[inline(always)]
 fn quoted_len(text: &str) -> Result<usize, Memory>
     ensures len { IfOk result (λ n. n ≡ length (quoted text.now)) }
     ensures few { IfOk result (λ n. n ≤ 6 * longest + 2) }

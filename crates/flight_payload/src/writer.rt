@@ -1,9 +1,8 @@
 ghost use Rattle.std.specs.Prelude.{◌≡◌, ◌++◌, ◌∷◌, ◌<◌, ◌^◌, [], length, OnOk, IfOk};
-ghost use Rattle.std.specs.Fmt.{signed_decimal};
 ghost use Rattle.json.specs.Lex.{tokens};
 ghost use Rattle.json.specs.Print.{print, IsPrintable};
 ghost use Rattle.json.specs.Reads.{token_of as json_token_of};
-ghost use Rattle.json.specs.Token.{begin_array, end_array, begin_object, end_object, key, string, number};
+ghost use Rattle.json.specs.Token.{begin_array, end_array, begin_object, end_object, key, string};
 ghost use Rattle.flight_value.specs.Graph.{IsValidAtom};
 ghost use Rattle.flight_value.specs.declared.graph.Atom.TheVariants as value;
 ghost use Rattle.flight_text.specs.declared.mark.Mark.TheVariants as mark;
@@ -97,6 +96,15 @@ impl PayloadWriter {
             Atom::Failed(_) => unreachable!(),
             Atom::Pending => unreachable!(),
         }
+    }
+
+    /// Writes a whole number, from −(2^53−1) to 2^53−1 where it is to be read again.
+    #[inline(always)]
+    pub fn whole(&mut self, whole: i64) -> Result<(), Memory>
+        ensures { OnOk result (self.new ≡ self.old ++ token_of (place.Atom (value.Whole whole)) ∷ []) }
+    {
+        let mut digits = itoa::Buffer::new();
+        self.out.token(Token::Number(digits.format(whole)))
     }
 
     /// Writes a text.
@@ -230,14 +238,6 @@ impl PayloadWriter {
         })
     }
 
-    /// Writes a whole number.
-    fn whole(&mut self, whole: i64) -> Result<(), Memory>
-        ensures { OnOk result (self.new ≡ self.old ++ number (signed_decimal whole) ∷ []) }
-    {
-        let mut digits = itoa::Buffer::new();
-        self.out.token(Token::Number(digits.format(whole)))
-    }
-
     /// Writes a BigInt.
     fn big(&mut self, number: i128) -> Result<(), Memory>
         ensures { OnOk result (self.new ≡ self.old ++ spelled (mark.Big number) ∷ []) }
@@ -271,6 +271,7 @@ impl PayloadWriter {
     }
 
     /// Writes a string as it is.
+    #[inline(always)]
     pub(crate) fn string(&mut self, text: &str) -> Result<(), Memory>
         ensures { OnOk result (self.new ≡ self.old ++ string text.now ∷ []) }
     {
@@ -278,6 +279,7 @@ impl PayloadWriter {
     }
 
     /// Writes a token.
+    #[inline(always)]
     fn token(&mut self, token: Token<'_>) -> Result<(), Memory>
         requires printable { IsPrintable (json_token_of token) }
         requires line { IsLineToken (json_token_of token) }
