@@ -13,6 +13,8 @@ mod links;
 #[cfg(test)]
 mod outside;
 #[cfg(test)]
+mod page;
+#[cfg(test)]
 mod payloads;
 #[cfg(test)]
 mod places;
