@@ -3,7 +3,7 @@
 
 usage: conformance/run.py [PROGRAM] [FILE ..] [--jobs N] [--seconds N] [--show N]
 
-PROGRAM is a command line, as 'node other-flight.mjs'; a case's words are put behind it. Without it the proved build of
+PROGRAM is a command line, as 'node other-flight.mjs'; a case's words are put after it. Without it the proved build of
 this repository is made by bin/build, and that one is run. A FILE ends in .jsonl and has one case a line, or in .rows and
 is the input of `view`, or in .bundle and is that of `plain`; their output stands beside them in .txt. Without files,
 those beside this script and those in examples/ are run. Each case of `view` is run with other values of --cut too.
@@ -50,7 +50,7 @@ def example(path):
 
 
 def with_cuts(case):
-    """The case, and of one of `view` whose words are lawful the same with other cuts: the answer hangs on none."""
+    """The case, and of one of `view` whose words are lawful the same with other cuts: the answer depends on none."""
     yield case
     command, *options = case.words or [""]
     if command == "view" and case.status != 1 and (not options or (len(options) == 2 and options[0] == "--cut")):
