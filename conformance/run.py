@@ -37,8 +37,12 @@ Case = collections.namedtuple("Case", "name words input output status")
 
 
 def as_bytes(value):
-    """The bytes that a case gives as text or as base64."""
-    return value.encode("utf-8") if isinstance(value, str) else base64.b64decode(value["base64"], validate=True)
+    """The bytes that a case gives as text, as base64, or as texts with how often each is repeated."""
+    if isinstance(value, str):
+        return value.encode("utf-8")
+    if "repeat" in value:
+        return b"".join(text.encode("utf-8") * times for text, times in value["repeat"])
+    return base64.b64decode(value["base64"], validate=True)
 
 
 def example(path):
