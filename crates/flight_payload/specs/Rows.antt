@@ -1,5 +1,5 @@
 -- The rows that values are written in.
-use Rattle.std.specs.Prelude.{ℕ, ◌≡◌, ◌<◌, ◌^◌, true, List, [], ◌∷◌, codes, Option, Some, None}
+use Rattle.std.specs.Prelude.{ℕ, ◌≡◌, ◌<◌, ◌^◌, true, false, List, [], ◌∷◌, codes, Option, Some, None}
 use Rattle.json.specs.Token.{Token}
 use Rattle.serde_json.specs.Data.{Data}
 use Rattle.serde_json.specs.Read.{read}
@@ -49,6 +49,15 @@ pub record IsModule (text : List ℕ) : Type 0 where
   pub is_read : read text ≡ Some meant
   pub are_whole : has_whole_numbers meant ≡ true
   pub is_compact : text ≡ compact_text meant
+
+-- the JSON of a text, compact
+pub record IsModuleOf (json text : List ℕ) : Type 0 where
+  pub is_module : IsModule text
+  pub same : read text ≡ read json
+
+-- no JSON of whole numbers
+abbrev pub IsNoModule : List ℕ → Type 0
+IsNoModule json = (meant : Data) → read json ≡ Some meant → has_whole_numbers meant ≡ false
 
 -- ---- server references
 

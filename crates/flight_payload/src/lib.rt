@@ -11,10 +11,12 @@
 
 mod json_text;
 mod law;
+mod module;
 mod row;
 mod spelling;
 mod writer;
 
 pub use law::{lists_are_written, values_stand};
+pub use module::module_text;
 pub use row::{action_row, close_row, error_row, import_row, open_row, text_row};
 pub use writer::PayloadWriter;
