@@ -54,7 +54,7 @@ PAST_LIMIT = {
     "flight_eval": 5,
     "flight_graph": 3,
     "flight_link": 1,
-    "flight_payload": 4,
+    "flight_payload": 5,
     "flight_resolve": 3,
     "flight_seq": 24,
     "flight_syntax": 2,
