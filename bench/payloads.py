@@ -12,7 +12,6 @@ something could not be built.
 import argparse
 import os
 import pathlib
-import resource
 import shutil
 import subprocess
 import sys
@@ -27,36 +26,54 @@ OURS = """//! Writes one payload of a kind and prints its length.
 #![tactic(auto)]
 
 use flight_payload::PayloadWriter;
-use flight_value::{Atom, Memory};
+use flight_value::{Atom, Memory, Text};
 use std::alloc::Global;
 use std::process::ExitCode;
 use std::env;
 
-fn object(out: &mut PayloadWriter, number: u32) -> Result<(), Memory> {
+/// Texts of which none is known before the program runs: with one that wants an escape among sixteen.
+fn texts(alloc: Global) -> Result<Vec<Text>, Memory> {
+    let mut texts = Vec::new(alloc);
+    for number in 0..16u32 {
+        let mut text = String::new(alloc);
+        text.push_str(if number == 0 { "a text with a \\"quotation\\" in it, as prose has now and then, and more" } else { "a plain text of some sixty bytes, as labels and paragraphs have" })?;
+        texts.push(Text::from_string(text)?)?;
+    }
+    Ok(texts)
+}
+
+fn text(texts: &[Text], number: u32) -> &str {
+    match texts.get(number as usize % 16) {
+        Some(text) => text.as_str(),
+        None => "",
+    }
+}
+
+fn object(out: &mut PayloadWriter, name: &str, number: u32) -> Result<(), Memory> {
     out.begin_object()?;
     out.name("id")?;
     out.whole(i64::from(number))?;
     out.name("name")?;
-    out.text("small object")?;
+    out.text(name)?;
     out.name("ok")?;
     out.atom(&Atom::Bool(true))?;
     out.end_object()
 }
 
-fn item(out: &mut PayloadWriter, kind: &str, number: u32) -> Result<(), Memory> {
+fn item(out: &mut PayloadWriter, kind: &str, name: &str, texts: &[Text], number: u32) -> Result<(), Memory> {
     match kind {
-        "objects" => object(out, number),
+        "objects" => object(out, name, number),
         "numbers" => out.whole(i64::from(number) * 37),
-        _ if number % 16 == 0 => out.text("a text with a \\"quotation\\" in it, as prose has now and then, and more"),
-        _ => out.text("a plain text of some sixty bytes, as labels and paragraphs have"),
+        _ => out.text(text(texts, number)),
     }
 }
 
-fn payload(alloc: Global, kind: &str, count: u32) -> Result<usize, Memory> {
+fn payload(alloc: Global, kind: &str, name: &str, count: u32) -> Result<usize, Memory> {
+    let texts = texts(alloc)?;
     let mut out = PayloadWriter::new(alloc);
     out.begin_array()?;
     for number in 0..count {
-        item(&mut out, kind, number)?;
+        item(&mut out, kind, name, texts.as_slice(), number)?;
     }
     out.end_array()?;
     Ok(out.take_model_row(0)?.payload.as_slice().len())
@@ -73,7 +90,12 @@ fn main(rt: HostRuntime) -> ExitCode {
     let Ok(count) = count.parse::<u32>() else {
         return ExitCode::from(1);
     };
-    match payload(rt.alloc(), kind.as_str(), count) {
+    let name = words.next();
+    let name = match &name {
+        Some(name) => name.as_str(),
+        None => "",
+    };
+    match payload(rt.alloc(), kind.as_str(), name, count) {
         Ok(len) => {
             let _said = println!(rt; "{len}");
             ExitCode::from(0)
@@ -97,15 +119,18 @@ fn main() {
     let mut words = std::env::args().skip(1);
     let kind = words.next().unwrap();
     let count: u32 = words.next().unwrap().parse().unwrap();
+    let name = words.next().unwrap_or_default();
+    let texts: Vec<String> = (0..16)
+        .map(|number| String::from(if number == 0 { "a text with a \\"quotation\\" in it, as prose has now and then, and more" } else { "a plain text of some sixty bytes, as labels and paragraphs have" }))
+        .collect();
     let mut out = Vec::new();
     let mut writer = serde_json::Serializer::new(&mut out);
     let mut items = writer.serialize_seq(None).unwrap();
     for number in 0..count {
         match kind.as_str() {
-            "objects" => items.serialize_element(&Small { id: number as i64, name: "small object", ok: true }),
+            "objects" => items.serialize_element(&Small { id: number as i64, name: &name, ok: true }),
             "numbers" => items.serialize_element(&(number as i64 * 37)),
-            _ if number % 16 == 0 => items.serialize_element("a text with a \\"quotation\\" in it, as prose has now and then, and more"),
-            _ => items.serialize_element("a plain text of some sixty bytes, as labels and paragraphs have"),
+            _ => items.serialize_element(&texts[number as usize % 16]),
         }
         .unwrap();
     }
@@ -168,14 +193,12 @@ def peer(room):
 
 def measured(program, kind, count):
     """What the program printed, its processor time in seconds, and its peak memory in MB."""
-    before = resource.getrusage(resource.RUSAGE_CHILDREN)
-    ran = subprocess.Popen([program, kind, str(count)], stdout=subprocess.PIPE, text=True)
+    ran = subprocess.Popen([program, kind, str(count), "small object"], stdout=subprocess.PIPE, text=True)
     printed = ran.stdout.read()
     _, status, used = os.wait4(ran.pid, 0)
     ran.returncode = status
     if status:
         give_up(f"{program} {kind} {count} ended with status {status}")
-    del before
     return printed, used.ru_utime + used.ru_stime, used.ru_maxrss / 1000
 
 

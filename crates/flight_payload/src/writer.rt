@@ -111,7 +111,7 @@ impl PayloadWriter {
     pub fn text(&mut self, text: &str) -> Result<(), Memory>
         ensures { OnOk result (self.new ≡ self.old ++ token_of (place.Atom (value.Text text.now)) ∷ []) }
     {
-        if text.starts_with('$') {
+        if text.as_bytes().first() == Some(&b'$') {
             self.signed("$", text)
         } else {
             self.string(text)
