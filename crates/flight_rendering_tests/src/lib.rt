@@ -10,5 +10,3 @@ mod commands;
 mod homes;
 #[cfg(test)]
 mod plain;
-#[cfg(test)]
-mod tasks;
