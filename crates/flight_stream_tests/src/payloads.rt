@@ -1,9 +1,7 @@
-ghost use Rattle.std.specs.Prelude.{◌<◌, ◌^◌};
-
 use flight_feed::{Arrived, Feed, FeedFault};
 use flight_payload::{
-    PayloadWriter, action_row, close_row, error_row, import_row, lists_are_written, module_text,
-    open_row, text_row, values_stand,
+    PayloadWriter, action_row, close_row, error_row, lists_are_written, open_row, text_row,
+    values_stand,
 };
 use flight_row::{RowKind, write_row};
 use flight_text::Ref;
@@ -81,17 +79,7 @@ fn slots_len(alloc: Global) -> Result<usize, Memory> {
     Ok(out.len())
 }
 
-/// Writes the row of a client module.
-fn write_import(alloc: Global, id: u32, json: &str, bytes: &mut Vec<u8>) -> Result<(), Memory>
-    requires { id < 2 ^ 31 }
-{
-    match module_text(alloc, json)? {
-        Some(text) => write_row(&import_row(alloc, id, text.as_str())?, bytes),
-        None => Ok(()),
-    }
-}
-
-/// A row of each kind, as they are written one after another. What is no module has no row.
+/// A row of each kind but an import, as they are written one after another.
 fn stream(alloc: Global) -> Result<Vec<u8>, Memory> {
     let mut bytes = Vec::new(alloc);
     let mut out = PayloadWriter::new(alloc);
@@ -103,9 +91,6 @@ fn stream(alloc: Global) -> Result<Vec<u8>, Memory> {
     write_row(&error_row(alloc, 2, "d\"1")?, &mut bytes)?;
     write_row(&action_row(alloc, 3, "save", None)?, &mut bytes)?;
     write_row(&action_row(alloc, 4, "save", Some(11))?, &mut bytes)?;
-    write_import(alloc, 6, "[4707, [\"a.js\"],\"L\"]", &mut bytes)?;
-    write_import(alloc, 7, "[1.5]", &mut bytes)?;
-    write_import(alloc, 8, "[", &mut bytes)?;
     write_row(&open_row(alloc, 5, Flow::Iterator), &mut bytes)?;
     write_row(&close_row(alloc, 5), &mut bytes)?;
     Ok(bytes)
@@ -137,7 +122,6 @@ fn writes_values_and_rows(rt: HostRuntime) -> Result<(), Fail> {
         (2, RowKind::Error, "{\"digest\":\"d\\\"1\"}"),
         (3, RowKind::Model, "{\"bound\":null,\"id\":\"save\"}"),
         (4, RowKind::Model, "{\"bound\":\"$@b\",\"id\":\"save\"}"),
-        (6, RowKind::Import, "[4707,[\"a.js\"],\"L\"]"),
         (5, RowKind::Open(Flow::Iterator), ""),
         (5, RowKind::Close, ""),
     ] {
