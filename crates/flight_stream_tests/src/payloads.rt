@@ -1,7 +1,9 @@
+ghost use Rattle.std.specs.Prelude.{◌<◌, ◌^◌};
+
 use flight_feed::{Arrived, Feed, FeedFault};
 use flight_payload::{
-    PayloadWriter, action_row, close_row, error_row, lists_are_written, open_row, text_row,
-    values_stand,
+    PayloadWriter, action_row, close_row, error_row, import_row, lists_are_written, module_text,
+    open_row, text_row, values_stand,
 };
 use flight_row::{RowKind, write_row};
 use flight_text::Ref;
@@ -67,6 +69,11 @@ fn write_slots(alloc: Global, out: &mut PayloadWriter) -> Result<(), Memory> {
 const SLOTS: &str =
     "[\"$undefined\",true,-9007199254740991,\"$n-12\",\"é\",\"$Sreact.suspense\",\"$-Infinity\",\"$@7fffffff\",\"$F3\",\"$Q4\",\"$W5\"]";
 
+/// What a bundler says of a client module, and as its row has it.
+const MODULE: &str = "{ \"id\": \"a.js\", \"chunks\": [ 7 ] }";
+
+const COMPACT: &str = "{\"chunks\":[7],\"id\":\"a.js\"}";
+
 /// How long a payload is before it is taken off.
 fn slots_len(alloc: Global) -> Result<usize, Memory> {
     let mut out = PayloadWriter::new(alloc);
@@ -79,7 +86,17 @@ fn slots_len(alloc: Global) -> Result<usize, Memory> {
     Ok(out.len())
 }
 
-/// A row of each kind but an import, as they are written one after another.
+/// Writes the row of a client module, by what a bundler says of it.
+fn write_import(alloc: Global, id: u32, json: &str, bytes: &mut Vec<u8>) -> Result<(), Memory>
+    requires { id < 2 ^ 31 }
+{
+    if let Some(module) = module_text(alloc, json)? {
+        write_row(&import_row(alloc, id, module.as_str())?, bytes)?;
+    }
+    Ok(())
+}
+
+/// A row of each kind, as they are written one after another.
 fn stream(alloc: Global) -> Result<Vec<u8>, Memory> {
     let mut bytes = Vec::new(alloc);
     let mut out = PayloadWriter::new(alloc);
@@ -93,6 +110,7 @@ fn stream(alloc: Global) -> Result<Vec<u8>, Memory> {
     write_row(&action_row(alloc, 4, "save", Some(11))?, &mut bytes)?;
     write_row(&open_row(alloc, 5, Flow::Iterator), &mut bytes)?;
     write_row(&close_row(alloc, 5), &mut bytes)?;
+    write_import(alloc, 6, MODULE, &mut bytes)?;
     Ok(bytes)
 }
 
@@ -124,6 +142,7 @@ fn writes_values_and_rows(rt: HostRuntime) -> Result<(), Fail> {
         (4, RowKind::Model, "{\"bound\":\"$@b\",\"id\":\"save\"}"),
         (5, RowKind::Open(Flow::Iterator), ""),
         (5, RowKind::Close, ""),
+        (6, RowKind::Import, COMPACT),
     ] {
         let row = found.next().map(|arrived| &arrived.row);
         assert!(rt;
