@@ -31,14 +31,14 @@ use Rattle.flight_state.specs.Local.{Seen, Homes, Births, IsOnce, EmitsHere}
 use Rattle.flight_state.proofs.LastRows.{rows_of-cons}
 
 -- one row of one place
-abbrev single : ℕ → Place → List PlacedRow
+abbrev pub single : ℕ → Place → List PlacedRow
 single id at = record { id = id; tree = record { kind = row.Model; places = at ∷ [] } } ∷ []
 
-single_own : (id : ℕ) (at : Place) → rows_of id (single id at) ≡ record { kind = row.Model; places = at ∷ [] } ∷ []
+pub single_own : (id : ℕ) (at : Place) → rows_of id (single id at) ≡ record { kind = row.Model; places = at ∷ [] } ∷ []
 single_own id at = rows_of-cons id (record { id = id; tree = record { kind = row.Model; places = at ∷ [] } }) [] ∙ ap (λ b. cond b (record { kind = row.Model; places = at ∷ [] } ∷ []) []) (eq-eqb id id refl)
 
 -- of another id there is none
-single_rows : (id : ℕ) (at : Place) (n : ℕ) → ((n ≡ id) × (rows_of n (single id at) ≡ record { kind = row.Model; places = at ∷ [] } ∷ [])) ⊎ (rows_of n (single id at) ≡ [])
+pub single_rows : (id : ℕ) (at : Place) (n : ℕ) → ((n ≡ id) × (rows_of n (single id at) ≡ record { kind = row.Model; places = at ∷ [] } ∷ [])) ⊎ (rows_of n (single id at) ≡ [])
 single_rows id at n = go (eqb id n) refl
   where
     go : (b : Bool) → eqb id n ≡ b → ((n ≡ id) × (rows_of n (single id at) ≡ record { kind = row.Model; places = at ∷ [] } ∷ [])) ⊎ (rows_of n (single id at) ≡ [])
@@ -49,18 +49,18 @@ IsClose : RowKind → Type 0
 IsClose row.Close = Unit {0}
 IsClose k = ⊥
 
-single_once : (id : ℕ) (at : Place) (n : ℕ) → IsOnce (rows_of n (single id at))
+pub single_once : (id : ℕ) (at : Place) (n : ℕ) → IsOnce (rows_of n (single id at))
 unfolding IsClose
 single_once id at n = ⊎_elim (λ e. subst IsOnce (sym e.1) (λ q. subst IsClose (sym q) tt)) (λ e. subst IsOnce (sym e) tt) (single_rows id at n)
 
-single_place : (id : ℕ) (at : Place) → place_at (single id at) (first_place id) ≡ Some at
+pub single_place : (id : ℕ) (at : Place) → place_at (single id at) (first_place id) ≡ Some at
 single_place id at = ap (λ ts. option_and_then (λ (t : PlaceTree). slice_get t.places 0) (slice_get ts 0)) (single_own id at)
 
-single_value : (id : ℕ) (at : Place) → HasValueRow (single id at) id
+pub single_value : (id : ℕ) (at : Place) → HasValueRow (single id at) id
 single_value id at = ap (λ ts. go_to id ts []) (single_own id at)
 
 -- the one place is the root
-single_only : (id : ℕ) (at : Place) (s : Spot) (p : Place) → place_at (single id at) s ≡ Some p → (s ≡ first_place id) × (p ≡ at)
+pub single_only : (id : ℕ) (at : Place) (s : Spot) (p : Place) → place_at (single id at) s ≡ Some p → (s ≡ first_place id) × (p ≡ at)
 single_only id at s p h = ⊎_elim (λ e. by s.id e.0 s.nth s.at (sym (ap (λ ts. look s.nth s.at ts) e.1) ∙ h)) (λ e. absurd (none-some p (sym (ap (λ ts. look s.nth s.at ts) e) ∙ h))) (single_rows id at s.id)
   where
     look : ℕ → ℕ → List PlaceTree → Option Place
@@ -72,7 +72,7 @@ single_only id at s p h = ⊎_elim (λ e. by s.id e.0 s.nth s.at (sym (ap (λ ts
     by i e (suc nth) n q = absurd (none-some p q)
 
 -- an atom is one row, and nothing else
-pub atom_here : (g : Ground) (seen : Seen) (a : Atom) → ¬ (a ≡ atom.Pending) → (id start : ℕ) (homes : Homes) → EmitsHere g seen (shown (tree.Atom a)) id start start homes homes (single id (place.Atom a)) [] ((first_place id, shown (tree.Atom a)) ∷ [])
+unfoldable pub atom_here : (g : Ground) (seen : Seen) (a : Atom) → ¬ (a ≡ atom.Pending) → (id start : ℕ) (homes : Homes) → EmitsHere g seen (shown (tree.Atom a)) id start start homes homes (single id (place.Atom a)) [] ((first_place id, shown (tree.Atom a)) ∷ [])
 atom_here g seen a sure id start homes =
     record {
       own = (single_value id (place.Atom a), inl refl);
@@ -101,10 +101,10 @@ atom_here g seen a sure id start homes =
     }
 
 -- the promise of a source is one row, one home and one task
-abbrev promise_home : ℕ → ℕ → Key × Ref
+abbrev pub promise_home : ℕ → ℕ → Key × Ref
 promise_home source id = (key.Settled source, record { id = id; path = [] })
 
-pub promise_here : (g : Ground) (seen : Seen) (source id start : ℕ) (homes : Homes) → id < start → ((a : Ref) → In (key.Settled source, a) homes → ⊥)
+unfoldable pub promise_here : (g : Ground) (seen : Seen) (source id start : ℕ) (homes : Homes) → id < start → ((a : Ref) → In (key.Settled source, a) homes → ⊥)
     → EmitsHere g seen (shown (tree.Promise source)) id start (suc start) homes (homes ++ promise_home source start ∷ []) (single id (place.Promise start)) ((start, what.Promise source) ∷ []) ((first_place id, shown (tree.Promise source)) ∷ [])
 promise_here g seen source id start homes low new =
     record {
