@@ -1,20 +1,23 @@
 -- What is asked of a writer can be done: an atom, and the promise of a source.
 use Rattle.std.proofs.Common.{◌≡◌, ℕ, zero, suc, ◌<◌, Bool, true, false, cond, eqb, eqb-true, eq-eqb, ◌⊎◌, inl, inr, ⊎_elim, List, [], ◌∷◌, ◌++◌, Option, Some, None, option_and_then, refl, sym, ap, ◌∙◌, subst, append-nil, arith}
 use Rattle.std.proofs.lemmas.Option.{none-some, same_Some}
-use Rattle.std.specs.Prelude.{slice_get}
+use Rattle.std.specs.Prelude.{slice_get, if◌then◌else◌}
 use Rattle.flight_value.specs.Store as store
 use Rattle.flight_value.specs.Store.{Shape}
 use Rattle.flight_value.specs.declared.graph.Atom.{Atom}
 use Rattle.flight_value.specs.declared.graph.Atom.TheVariants as atom
 use Rattle.flight_value.specs.declared.key.Key.{Key}
 use Rattle.flight_value.specs.declared.key.Key.TheVariants as key
+use Rattle.flight_value.specs.declared.made.Made.{Made}
+use Rattle.flight_value.specs.declared.made.Tables.{Tables}
 use Rattle.flight_value.specs.declared.made.Tree.TheVariants as tree
+use Rattle.flight_value.specs.declared.name.Name.{Name}
 use Rattle.flight_text.specs.declared.mark.Ref.{Ref}
 use Rattle.flight_row.specs.declared.row.RowKind.{RowKind}
 use Rattle.flight_row.specs.declared.row.RowKind.TheVariants as row
 use Rattle.flight_render.specs.declared.root.Ground.{Ground}
 use Rattle.flight_render.specs.declared.job.What.TheVariants as what
-use Rattle.flight_render.specs.Jobs.{outcome, Value, of_job, shown}
+use Rattle.flight_render.specs.Jobs.{outcome, element, Value, of_job, shown, is_server}
 use Rattle.flight_value.specs.Listed.{In}
 use Rattle.flight_render.specs.Attempt.{job_for}
 use Rattle.flight_state.specs.State.{stream_for}
@@ -27,7 +30,7 @@ use Rattle.flight_meaning.specs.Resolve.{go_to}
 use Rattle.flight_meaning.specs.Meaning.{Identity, promise_of, value_of}
 use Rattle.flight_state.specs.Emits.{HasValueRow, IsPlain}
 use Rattle.flight_state.specs.Local as local
-use Rattle.flight_state.specs.Local.{Seen, Homes, Births, IsOnce, EmitsHere}
+use Rattle.flight_state.specs.Local.{Seen, Homes, Births, IsOnce, EmitsHere, job_seen}
 use Rattle.flight_state.proofs.LastRows.{rows_of-cons}
 
 -- one row of one place
@@ -171,3 +174,57 @@ promise_here g seen source id start homes low new =
 
     met : local.MetBy g seen (shown (tree.Promise source)) (outcome source) None
     met = (of_job (outcome source), local.in_slot local.at_first tt refl refl tt refl (inl refl), tt, refl)
+
+-- a server element that is left to a task is one row, one home of a row and one task
+abbrev pub element_home : Name → ℕ → Key × Ref
+element_home n id = (key.Server n, record { id = id; path = [] })
+
+pub element_only : (n : Name) (start : ℕ) (k : Key) (x : Ref) → In (k, x) (element_home n start ∷ []) → (k ≡ key.Server n) × (x ≡ record { id = start; path = [] })
+element_only n start k x (inl e) = (ap (λ z. z.0) e, ap (λ z. z.1) e)
+element_only n start k x (inr i) = absurd i
+
+-- it is no node, so nothing is known by its name
+pub nameless : (g : Ground) (seen : Seen) (n : Name) (rows : List PlacedRow) (k : Key) (x : Ref) (i : Identity) → k ≡ key.Server n → local.Names g seen rows k x i → ⊥
+nameless g seen n rows k x i same p = let q = subst (λ z. local.Names g seen rows z x i) same p in none-some q.0 q.1
+
+pub element_job : (seen : Seen) (n : Name) (m : Made) → seen.look n ≡ Some m → is_server (Some m) ≡ true → job_seen seen (shown (tree.Made n)) ≡ Some (element n)
+element_job seen n m is_made server = ap (λ z. if is_server z then Some (element n) else None) is_made ∙ ap (λ (b : Bool). if b then Some (element n) else None) server
+
+pub in_last : {A : Type 0} (x : A) (xs : List A) → In x (xs ++ x ∷ [])
+in_last x [] = inl refl
+in_last x (y ∷ ys) = inr (in_last x ys)
+
+unfoldable pub element_here : (g : Ground) (seen : Seen) (n : Name) (m : Made) (tables : Tables) (id start : ℕ) (homes : Homes) → seen.look n ≡ Some m → is_server (Some m) ≡ true → tables.made ≡ seen.tables n → id < start → ((a : Ref) → In (key.Server n, a) homes → ⊥)
+    → EmitsHere g seen (shown (tree.Made n)) id start (suc start) homes (homes ++ element_home n start ∷ []) (single id (place.Lazy start)) ((start, what.Element n tables) ∷ []) ((first_place id, shown (tree.Made n)) ∷ [])
+element_here g seen n m tables id start homes is_made server same low new =
+    record {
+      own = (single_value id (place.Lazy start), inl refl);
+      adds = record {
+        up = omega arith;
+        once = single_once id (place.Lazy start);
+        row_fresh = λ k h. ⊎_elim (λ e. inl e.0) (λ e. absurd (h e)) (single_rows id (place.Lazy start) k);
+        held = λ s at h. let e = single_only id (place.Lazy start) s at h in inr (shown (tree.Made n), inl (ap (λ z. (z, shown (tree.Made n))) e.0));
+        more = element_home n start ∷ [];
+        homes = refl;
+        new_key = λ k x y i j. new y (subst (λ z. In (z, y) homes) (element_only n start k x i).0 j);
+        one_home = λ k x y i j. (element_only n start k x i).1 ∙ sym (element_only n start k y j).1;
+        one_key = λ k l x y o i j p q. (element_only n start k x i).0 ∙ sym (element_only n start l y j).0;
+        home_fresh = λ k x o i p. absurd (nameless g seen n (single id (place.Lazy start)) k x o (element_only n start k x i).0 p);
+        row_fresh_key = λ k x r i. let e = ap (λ (z : Ref). z.id) (element_only n start k x i).1 in (omega (arith, e), omega (arith, e));
+        one_row_key = λ k l x y r q i j e. (element_only n start k x i).0 ∙ sym (element_only n start l y j).0;
+        is_home = λ k x i. let e = element_only n start k x i in subst (λ z. local.HomeHere g seen (single id (place.Lazy start)) ((start, what.Element n tables) ∷ []) ((first_place id, shown (tree.Made n)) ∷ []) z x) (sym e.0)
+            (record { what = what.Element n tables; born = inl (ap (λ (z : Ref). (z.id, what.Element n tables)) e.1); is_job = refl });
+        places = λ s v i. ⊎_elim (λ e. (
+          place.Lazy start,
+          ap (λ z. place_at (single id (place.Lazy start)) z.0) e ∙ single_place id (place.Lazy start),
+          subst (λ z. local.WrittenHere g seen (homes ++ element_home n start ∷ []) (element_home n start ∷ []) (single id (place.Lazy start)) (Some s) (place.Lazy start) z) (sym (ap (λ z. z.1) e))
+              (local.a_task n (record { id = start; path = [] }) (m, is_made) (element_job seen n m is_made server) (in_last (element_home n start) homes) (inl refl)),
+        )) (λ k. absurd k) i;
+        born_once = (λ i. i, tt);
+        born_fresh = λ u w i. ⊎_elim (λ e. (omega (arith, ap (λ z. z.0) e), omega (arith, ap (λ z. z.0) e))) (λ k. absurd k) i;
+        born_met = λ u w i. ⊎_elim (λ e. subst (λ z. local.MetBy g seen (shown (tree.Made n)) (job_for g z) (stream_for z)) (sym (ap (λ z. z.1) e)) (shown (tree.Made n), local.at_first, (m, is_made), element_job seen n m is_made server)) (λ k. absurd k) i;
+        born_tables = λ u w i. ⊎_elim (λ e. subst (local.TablesHere seen) (sym (ap (λ z. z.1) e)) ((m, is_made, server), same)) (λ k. absurd k) i;
+        unwritten = λ u w i alone. ⊎_elim (λ e. ⊎_elim (λ x. absurd (omega (arith, low, x.0, ap (λ z. z.0) e))) (λ x. x) (single_rows id (place.Lazy start) u)) (λ k. absurd k) i;
+        for_stream = λ u w k i e. ⊎_elim (λ x. absurd (none-some k (sym (ap (λ z. stream_for z.1) x) ∙ e))) (λ j. absurd j) i;
+      };
+    }

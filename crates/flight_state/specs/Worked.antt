@@ -1,10 +1,17 @@
 -- Worked runs: small programs, step by step, with the rows that go out.
-use Rattle.std.specs.Prelude.{ℕ, false, List, [], ◌∷◌, codes}
+use Rattle.std.specs.Prelude.{ℕ, Bool, true, false, List, [], ◌∷◌, codes}
 use Rattle.flight_value.specs.declared.graph.Atom.{Atom}
 use Rattle.flight_value.specs.declared.graph.Atom.TheVariants as atom
 use Rattle.flight_value.specs.declared.graph.Slot.TheVariants as slot
 use Rattle.flight_value.specs.declared.graph.Graph.{Graph}
+use Rattle.flight_value.specs.declared.key.Key.TheVariants as key
+use Rattle.flight_value.specs.declared.made.MadeKind.TheVariants as kind
+use Rattle.flight_value.specs.declared.made.Made.{Made}
+use Rattle.flight_value.specs.declared.made.Tree.TheVariants as tree
+use Rattle.flight_value.specs.declared.name.Name.{Name}
 use Rattle.flight_syntax.specs.declared.expr.Expr.{Expr}
+use Rattle.flight_syntax.specs.declared.expr.Tag.TheVariants as tag
+use Rattle.flight_syntax.specs.declared.script.Outcome.TheVariants as outcome
 use Rattle.flight_syntax.specs.declared.expr.Expr as expr
 use Rattle.flight_syntax.specs.declared.program.Declared.{Declared}
 use Rattle.flight_syntax.specs.declared.program.Declared.TheVariants as declared
@@ -17,10 +24,11 @@ use Rattle.flight_render.specs.declared.job.What.TheVariants as what
 use Rattle.flight_meaning.specs.declared.place.Place.{Place}
 use Rattle.flight_meaning.specs.declared.place.Place.TheVariants as place
 use Rattle.flight_meaning.specs.declared.place.PlacedRow.{PlacedRow}
+use Rattle.flight_state.specs.declared.status.Status.{Status}
 use Rattle.flight_state.specs.declared.status.Status.TheVariants as status
 use Rattle.flight_state.specs.declared.event.Event.{Event}
 use Rattle.flight_state.specs.declared.event.Event.TheVariants as event
-use Rattle.flight_state.specs.State.{State}
+use Rattle.flight_state.specs.State.{State, Task}
 
 -- ---- the parts
 
@@ -71,3 +79,72 @@ greeting_end =
 -- a text, and no node
 abbrev pub greeting_graph : Graph
 greeting_graph = record { root = slot.Atom hello; nodes = [] }
+
+-- ---- an element that waits for data: `function App() { return <Item/>; }` and `async function Item() { return await user; }`
+
+abbrev pub ada : Atom
+ada = atom.Text (codes "Ada")
+
+-- the data that is waited for: the text "Ada"
+abbrev pub user : Data
+user = record { name = codes "user"; outcome = outcome.Value (record { root = slot.Atom ada; nodes = [] }) }
+
+abbrev pub late : Ground
+late = app_over (component (codes "App") (expr.Element (tag.Server 1) [] []) ∷ component (codes "Item") (expr.Source (codes "user")) ∷ []) (user ∷ []) []
+
+-- what the body of `App` makes: the props of `<Item/>`, and the element
+abbrev pub props_made : Made
+props_made = record { kind = kind.Object []; slots = [] }
+
+abbrev pub item_made : Made
+item_made = record { kind = kind.Server 1; slots = tree.Atom atom.Null ∷ tree.Made (record { render = []; serial = 0 }) ∷ [] }
+
+abbrev pub item : Name
+item = record { render = []; serial = 1 }
+
+-- the task of `<Item/>` writes row 1
+abbrev pub item_task : Status → ℕ → List Bool → Task
+item_task s turns remembered = record { id = 1; what = what.Element item (record { made = (props_made ∷ item_made ∷ []) ∷ [] }); status = s; turns = turns; remembered = remembered }
+
+abbrev pub root_done : List Bool → Task
+root_done remembered = record { id = 0; what = what.Root; status = status.Done; turns = 1; remembered = remembered }
+
+-- `App` finishes, and the task of `<Item/>` is born; that is taken, and waits
+abbrev pub late_events : List Event
+late_events = event.Take 0 ∷ event.Done 0 ∷ event.Take 1 ∷ event.Wait 1 0 ∷ []
+
+-- One row went out, `0:"$L1"`, and the task of row 1 waits for the data. The body of `App` cost 5.
+abbrev pub late_waiting : State
+late_waiting =
+    record {
+      rows = model 0 (place.Lazy 1 ∷ []) ∷ [];
+      tasks = root_done (false ∷ []) ∷ item_task (status.Waiting 0) 1 (false ∷ []) ∷ [];
+      settled = false ∷ [];
+      homes = [];
+      others = (key.Server item, 1) ∷ [];
+      counted = ([], 5) ∷ [];
+      ended = [];
+      over = false;
+    }
+
+-- the data is there, so the task is ready; it is taken again, from its start, and finishes
+abbrev pub late_rest : List Event
+late_rest = event.Ping 0 ∷ event.Take 1 ∷ event.Done 1 ∷ []
+
+-- A second row went out, `1:"Ada"`, and all tasks are done. The body of `Item` cost 5: 1 for the data, 1 for the value
+-- given, and 3 for its bytes.
+abbrev pub late_end : State
+late_end =
+    record {
+      rows = model 0 (place.Lazy 1 ∷ []) ∷ model 1 (place.Atom ada ∷ []) ∷ [];
+      tasks = root_done (false ∷ []) ∷ item_task status.Done 2 (true ∷ []) ∷ [];
+      settled = true ∷ [];
+      homes = [];
+      others = (key.Server item, 1) ∷ [];
+      counted = ([], 5) ∷ (1 ∷ [], 5) ∷ [];
+      ended = [];
+      over = false;
+    }
+
+abbrev pub late_graph : Graph
+late_graph = record { root = slot.Atom ada; nodes = [] }
