@@ -24,7 +24,7 @@ use Rattle.flight_render.specs.Jobs.{element, shown, comes, job_of, is_server}
 use Rattle.flight_render.specs.Costs.{Rendered, Reached, at_root, through}
 use Rattle.flight_render.specs.Valid.{IsValidGround, IsDeclared, IsLawful}
 use Rattle.flight_meaning.specs.Linked.{first_place}
-use Rattle.flight_meaning.specs.Resolve.{found}
+use Rattle.flight_meaning.specs.Resolve.{found, not_yet}
 use Rattle.flight_meaning.specs.Meaning.{meaning}
 use Rattle.flight_meaning.specs.declared.place.Place.TheVariants as place
 use Rattle.flight_state.specs.declared.status.Status.TheVariants as status
@@ -36,7 +36,7 @@ use Rattle.flight_value.specs.declared.key.Key.{Key}
 use Rattle.flight_text.specs.declared.mark.Ref.{Ref}
 use Rattle.flight_render.specs.declared.job.What.TheVariants as what
 use Rattle.flight_state.specs.declared.event.Event.{Event}
-use Rattle.flight_state.specs.Worked.{ada, user, late, props_made, item_made, item, item_task, root_done, late_events, late_waiting, late_rest, late_end, late_graph, model}
+use Rattle.flight_state.specs.Worked.{ada, user, late, props_made, item_made, item, item_task, root_done, late_events, late_waiting, late_rest, late_end, late_graph, late_so_far, model}
 use Rattle.flight_state.proofs.Examples.{atom_here, element_here, element_home, element_only}
 use Rattle.flight_state.proofs.Going.{Going, opens, takes, writes, stops, pings}
 use Rattle.flight_state.proofs.Apps.{app_body, component_body, root_rendered, all_seen, all_shows}
@@ -363,6 +363,23 @@ late_means = (
       there = store.atom ada;
       leads_here = refl;
       leads_there = inl (found (first_place 1), (4, refl), refl);
+      targets_fit = refl;
+    };
+    each = λ k l p. absurd (omega (arith, p.1));
+  },
+)
+
+pub late_pends : DrawOneGraph (of_graph late_so_far) (meaning late_waiting.rows)
+late_pends = (
+  [],
+  record {
+    one_there = λ k l m p q. absurd (omega (arith, p.1));
+    one_here = λ k j l p q. absurd (omega (arith, p.1));
+    roots = record {
+      here = store.atom atom.Pending;
+      there = store.atom atom.Pending;
+      leads_here = refl;
+      leads_there = inl (not_yet 1 [], (3, refl), refl);
       targets_fit = refl;
     };
     each = λ k l p. absurd (omega (arith, p.1));

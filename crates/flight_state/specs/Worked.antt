@@ -49,6 +49,10 @@ app_over declared sources streams =
 abbrev pub model : ℕ → List Place → PlacedRow
 model id places = record { id = id; tree = record { kind = row.Model; places = places } }
 
+-- an error row, by its digest
+abbrev pub failure : ℕ → List ℕ → PlacedRow
+failure id digest = record { id = id; tree = record { kind = row.Error; places = place.Atom (atom.Failed digest) ∷ [] } }
+
 -- ---- a value: `function App() { return "hello"; }`
 
 abbrev pub hello : Atom
@@ -148,3 +152,28 @@ late_end =
 
 abbrev pub late_graph : Graph
 late_graph = record { root = slot.Atom ada; nodes = [] }
+
+-- before the data is there, row 1 pends
+abbrev pub late_so_far : Graph
+late_so_far = record { root = slot.Atom atom.Pending; nodes = [] }
+
+-- ---- an abort of the same request, while the task of `<Item/>` waits
+
+-- One error row went out, under the next id, and row 1 refers to it: `2:E{"digest":"stopped"}` and `1:"$L2"`. All tasks
+-- are done.
+abbrev pub late_aborted : State
+late_aborted =
+    record {
+      rows = model 0 (place.Lazy 1 ∷ []) ∷ failure 2 (codes "stopped") ∷ model 1 (place.Lazy 2 ∷ []) ∷ [];
+      tasks = root_done (false ∷ []) ∷ item_task status.Done 1 (false ∷ []) ∷ [];
+      settled = false ∷ [];
+      homes = [];
+      others = (key.Server item, 1) ∷ [];
+      counted = ([], 5) ∷ [];
+      ended = (1, 2) ∷ [];
+      over = false;
+    }
+
+-- the element failed
+abbrev pub aborted_graph : Graph
+aborted_graph = record { root = slot.Atom (atom.Failed (codes "stopped")); nodes = [] }

@@ -1,11 +1,14 @@
-ghost use Rattle.std.specs.Prelude.{◌++◌};
+ghost use Rattle.std.specs.Prelude.{[], ◌∷◌, ◌++◌, codes};
 ghost use Rattle.flight_value.specs.Store.{DrawOneGraph, of_graph};
 ghost use Rattle.flight_render.specs.Plain.{plain};
 ghost use Rattle.flight_render.specs.Valid.{IsValidGround};
 ghost use Rattle.flight_meaning.specs.Meaning.{meaning};
+ghost use Rattle.flight_meaning.specs.Good.{IsGood};
+ghost use Rattle.flight_state.specs.declared.event.Event.TheVariants.{Abort};
+ghost use Rattle.flight_state.specs.Ended.{ended};
 ghost use Rattle.flight_state.specs.State.{IsQuiet, IsClosed};
 ghost use Rattle.flight_state.specs.Steps.{Run, opening};
-ghost use Rattle.flight_state.specs.Worked.{greeting, greeting_events, greeting_end, greeting_graph, late, late_events, late_waiting, late_rest, late_end, late_graph};
+ghost use Rattle.flight_state.specs.Worked.{greeting, greeting_events, greeting_end, greeting_graph, late, late_events, late_waiting, late_rest, late_end, late_graph, late_so_far, late_aborted, aborted_graph};
 
 /// `function App() { return "hello"; }`: one task and one row, `0:"hello"`.
 pub fn plain_value()
@@ -22,8 +25,19 @@ pub fn waiting_element()
     ensures valid { IsValidGround late }
     ensures waits { Run late late_events (opening late) late_waiting }
     ensures quiet { IsQuiet late_waiting }
+    ensures so_far { DrawOneGraph (of_graph late_so_far) (meaning late_waiting.rows) }
     ensures run { Run late (late_events ++ late_rest) (opening late) late_end }
     ensures closed { IsClosed late_end }
     ensures graph { DrawOneGraph (of_graph late_graph) (meaning late_end.rows) }
     ensures same { DrawOneGraph (plain late late_end.settled) (meaning late_end.rows) }
+{}
+
+/// The same request, aborted while the task of row 1 waits: an error row, `2:E{"digest":"stopped"}`, and `1:"$L2"`. The
+/// rows are good, and the element failed.
+pub fn aborted_wait()
+    ensures run { Run late (late_events ++ Abort ∷ []) (opening late) late_aborted }
+    ensures closed { IsClosed late_aborted }
+    ensures good { IsGood late_aborted.rows }
+    ensures graph { DrawOneGraph (of_graph aborted_graph) (meaning late_aborted.rows) }
+    ensures ended { DrawOneGraph (ended (codes "stopped") (plain late late_waiting.settled)) (meaning late_aborted.rows) }
 {}
