@@ -28,7 +28,7 @@ use Rattle.flight_meaning.specs.declared.place.PlacedRow.{PlacedRow}
 use Rattle.flight_meaning.specs.Linked.{rows_of, Spot, place_at, first_place}
 use Rattle.flight_meaning.specs.Resolve.{go_to}
 use Rattle.flight_meaning.specs.Meaning.{Identity, promise_of, value_of}
-use Rattle.flight_state.specs.Emits.{HasValueRow, IsPlain}
+use Rattle.flight_state.specs.Emits.{HasValueRow}
 use Rattle.flight_state.specs.Local as local
 use Rattle.flight_state.specs.Local.{Seen, Homes, Births, IsOnce, EmitsHere, job_seen}
 use Rattle.flight_state.proofs.LastRows.{rows_of-cons}
@@ -74,16 +74,16 @@ single_only id at s p h = ⊎_elim (λ e. by s.id e.0 s.nth s.at (sym (ap (λ ts
     by i e zero (suc n) q = absurd (none-some p q)
     by i e (suc nth) n q = absurd (none-some p q)
 
--- an atom is one row, and nothing else
-unfoldable pub atom_here : (g : Ground) (seen : Seen) (a : Atom) → ¬ (a ≡ atom.Pending) → (id start : ℕ) (homes : Homes) → EmitsHere g seen (shown (tree.Atom a)) id start start homes homes (single id (place.Atom a)) [] ((first_place id, shown (tree.Atom a)) ∷ [])
-atom_here g seen a sure id start homes =
+-- what is written at one place is one row, and nothing else
+unfoldable pub bare_here : (g : Ground) (seen : Seen) (v : Value) (at : Place) (id start : ℕ) (homes : Homes) → local.WrittenHere g seen homes [] (single id at) (Some (first_place id)) at v → EmitsHere g seen v id start start homes homes (single id at) [] ((first_place id, v) ∷ [])
+bare_here g seen v at id start homes written =
     record {
-      own = (single_value id (place.Atom a), inl refl);
+      own = (single_value id at, inl refl);
       adds = record {
         up = omega arith;
-        once = single_once id (place.Atom a);
-        row_fresh = λ n h. ⊎_elim (λ e. inl e.0) (λ e. absurd (h e)) (single_rows id (place.Atom a) n);
-        held = λ s at h. inl (subst IsPlain (sym (single_only id (place.Atom a) s at h).1) tt);
+        once = single_once id at;
+        row_fresh = λ n h. ⊎_elim (λ e. inl e.0) (λ e. absurd (h e)) (single_rows id at n);
+        held = λ s p h. inr (v, inl (ap (λ z. (z, v)) (single_only id at s p h).0));
         more = [];
         homes = sym (append-nil homes);
         new_key = λ k x y i j. i;
@@ -91,9 +91,9 @@ atom_here g seen a sure id start homes =
         one_key = λ k l x y n i j p q. absurd i;
         home_fresh = λ k x n i p. absurd i;
         row_fresh_key = λ k x r i. absurd i;
-        one_row_key = λ k l x y r q i. absurd i;
+        one_row_key = λ k l x y r q i j. absurd i;
         is_home = λ k x i. absurd i;
-        places = λ s v i. ⊎_elim (λ e. (place.Atom a, ap (λ z. place_at (single id (place.Atom a)) z.0) e ∙ single_place id (place.Atom a), subst (λ z. local.WrittenHere g seen homes [] (single id (place.Atom a)) (Some s) (place.Atom a) z) (sym (ap (λ z. z.1) e)) (local.an_atom a refl refl sure))) (λ k. absurd k) i;
+        places = λ s u i. ⊎_elim (λ e. (at, ap (λ z. place_at (single id at) z.0) e ∙ single_place id at, subst (λ (z : Spot × Value). local.WrittenHere g seen homes [] (single id at) (Some z.0) at z.1) (sym e) written)) (λ k. absurd k) i;
         born_once = tt;
         born_fresh = λ u w i. absurd i;
         born_met = λ u w i. absurd i;
@@ -102,6 +102,9 @@ atom_here g seen a sure id start homes =
         for_stream = λ u w n i. absurd i;
       };
     }
+
+abbrev pub atom_here : (g : Ground) (seen : Seen) (a : Atom) → ¬ (a ≡ atom.Pending) → (id start : ℕ) (homes : Homes) → EmitsHere g seen (shown (tree.Atom a)) id start start homes homes (single id (place.Atom a)) [] ((first_place id, shown (tree.Atom a)) ∷ [])
+atom_here g seen a sure id start homes = bare_here g seen (shown (tree.Atom a)) (place.Atom a) id start homes (local.an_atom a refl refl sure)
 
 -- the promise of a source is one row, one home and one task
 abbrev pub promise_home : ℕ → ℕ → Key × Ref

@@ -27,7 +27,7 @@ use Rattle.flight_state.specs.Steps as steps
 use Rattle.flight_state.specs.Steps.{taken, first_task, opening, DoneStep, TakeStep}
 use Rattle.flight_state.specs.Local.{WritesHere}
 use Rattle.flight_state.specs.Worked.{hello, greeting, greeting_events, greeting_end, greeting_graph, component}
-use Rattle.flight_state.proofs.Examples.{atom_here}
+use Rattle.flight_state.proofs.Examples.{bare_here, atom_here}
 use Rattle.flight_state.proofs.Going.{Going, opens, takes, writes}
 use Rattle.flight_state.proofs.Apps.{app_body, root_rendered, all_seen, all_shows}
 
@@ -95,7 +95,7 @@ unfolding IsPending
 sure e = subst IsPending e tt
 
 write_first : WritesHere greeting running greeting_end 0 1 1 [] []
-unfolding atom_here
+unfolding bare_here
 write_first =
     record {
       step = done_first;

@@ -37,7 +37,7 @@ use Rattle.flight_text.specs.declared.mark.Ref.{Ref}
 use Rattle.flight_render.specs.declared.job.What.TheVariants as what
 use Rattle.flight_state.specs.declared.event.Event.{Event}
 use Rattle.flight_state.specs.Worked.{ada, user, late, props_made, item_made, item, item_task, root_done, late_events, late_waiting, late_rest, late_end, late_graph, late_so_far, model}
-use Rattle.flight_state.proofs.Examples.{atom_here, element_here, element_home, element_only}
+use Rattle.flight_state.proofs.Examples.{bare_here, atom_here, element_here, element_home, element_only}
 use Rattle.flight_state.proofs.Going.{Going, opens, takes, writes, stops, pings}
 use Rattle.flight_state.proofs.Apps.{app_body, component_body, root_rendered, all_seen, all_shows}
 
@@ -291,7 +291,7 @@ unfolding IsPending
 sure e = subst IsPending e tt
 
 item_writes : WritesHere late item_again late_end 1 2 2 (element_home item 1 ∷ []) (element_home item 1 ∷ [])
-unfolding atom_here
+unfolding bare_here
 item_writes =
     record {
       step = item_finishes;

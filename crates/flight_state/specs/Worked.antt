@@ -3,6 +3,7 @@ use Rattle.std.specs.Prelude.{ℕ, Bool, true, false, List, [], ◌∷◌, codes
 use Rattle.flight_value.specs.declared.graph.Atom.{Atom}
 use Rattle.flight_value.specs.declared.graph.Atom.TheVariants as atom
 use Rattle.flight_value.specs.declared.graph.Slot.TheVariants as slot
+use Rattle.flight_value.specs.declared.graph.Node.TheVariants as node
 use Rattle.flight_value.specs.declared.graph.Graph.{Graph}
 use Rattle.flight_value.specs.declared.key.Key.TheVariants as key
 use Rattle.flight_value.specs.declared.made.MadeKind.TheVariants as kind
@@ -24,6 +25,8 @@ use Rattle.flight_render.specs.declared.job.What.TheVariants as what
 use Rattle.flight_meaning.specs.declared.place.Place.{Place}
 use Rattle.flight_meaning.specs.declared.place.Place.TheVariants as place
 use Rattle.flight_meaning.specs.declared.place.PlacedRow.{PlacedRow}
+use Rattle.flight_meaning.specs.Linked.{first_place}
+use Rattle.flight_meaning.specs.Meaning.{made_at}
 use Rattle.flight_state.specs.declared.status.Status.{Status}
 use Rattle.flight_state.specs.declared.status.Status.TheVariants as status
 use Rattle.flight_state.specs.declared.event.Event.{Event}
@@ -177,3 +180,70 @@ late_aborted =
 -- the element failed
 abbrev pub aborted_graph : Graph
 aborted_graph = record { root = slot.Atom (atom.Failed (codes "stopped")); nodes = [] }
+
+-- ---- one object in two tasks: `function App() { return [<Item/>, <Item/>]; }`, where the data is `{name: "Ada"}`
+
+abbrev pub profile : Data
+profile =
+    record {
+      name = codes "user";
+      outcome = outcome.Value (record { root = slot.Node 0; nodes = node.Object (record { name = codes "name"; slot = slot.Atom ada } ∷ []) ∷ [] });
+    }
+
+abbrev pub twice : Ground
+twice =
+    app_over
+    (component (codes "App") (expr.Array (expr.Element (tag.Server 1) [] [] ∷ expr.Element (tag.Server 1) [] [] ∷ [])) ∷ component (codes "Item") (expr.Source (codes "user")) ∷ [])
+    (profile ∷ []) []
+
+abbrev pub other_item : Name
+other_item = record { render = []; serial = 3 }
+
+abbrev pub both_items : Name
+both_items = record { render = []; serial = 4 }
+
+-- what the body of `App` makes: each element after its props, and the array
+abbrev pub twice_made : List Made
+twice_made =
+    props_made ∷ item_made
+    ∷ props_made ∷ record { kind = kind.Server 1; slots = tree.Atom atom.Null ∷ tree.Made (record { render = []; serial = 2 }) ∷ [] }
+    ∷ record { kind = kind.Array; slots = tree.Made item ∷ tree.Made other_item ∷ [] } ∷ []
+
+-- the tasks of the elements write rows 1 and 2
+abbrev pub first_task_of : Status → ℕ → List Bool → Task
+first_task_of s turns remembered = record { id = 1; what = what.Element item (record { made = twice_made ∷ [] }); status = s; turns = turns; remembered = remembered }
+
+abbrev pub second_task_of : Status → ℕ → List Bool → Task
+second_task_of s turns remembered = record { id = 2; what = what.Element other_item (record { made = twice_made ∷ [] }); status = s; turns = turns; remembered = remembered }
+
+-- `App` finishes; the data is there; the tasks of the elements finish one after the other
+abbrev pub twice_events : List Event
+twice_events = event.Take 0 ∷ event.Done 0 ∷ event.Ping 0 ∷ event.Take 1 ∷ event.Done 1 ∷ event.Take 2 ∷ event.Done 2 ∷ []
+
+-- Three rows went out: `0:["$L1","$L2"]`, `1:{"name":"Ada"}` and `2:"$1"`. The object has its home in row 1, where it was
+-- met first, and row 2 refers to it.
+abbrev pub twice_end : State
+twice_end =
+    record {
+      rows =
+          model 0 (place.Array (1 ∷ 2 ∷ []) ∷ place.Lazy 1 ∷ place.Lazy 2 ∷ [])
+          ∷ model 1 (place.Object (record { name = codes "name"; place = 1 } ∷ []) ∷ place.Atom ada ∷ [])
+          ∷ model 2 (place.Value (record { id = 1; path = [] }) ∷ []) ∷ [];
+      tasks = root_done (false ∷ []) ∷ first_task_of status.Done 1 (true ∷ []) ∷ second_task_of status.Done 1 (true ∷ []) ∷ [];
+      settled = true ∷ [];
+      homes = (key.Made both_items, made_at (first_place 0)) ∷ (key.Source 0 0, made_at (first_place 1)) ∷ [];
+      others = (key.Server item, 1) ∷ (key.Server other_item, 2) ∷ [];
+      counted = ([], 12) ∷ (1 ∷ [], 2) ∷ (3 ∷ [], 2) ∷ [];
+      ended = [];
+      over = false;
+    }
+
+-- an array with one object twice
+abbrev pub twice_graph : Graph
+twice_graph =
+    record {
+      root = slot.Node 0;
+      nodes =
+          node.Array (slot.Node 1 ∷ slot.Node 1 ∷ [])
+          ∷ node.Object (record { name = codes "name"; slot = slot.Atom ada } ∷ []) ∷ [];
+    }

@@ -8,7 +8,7 @@ ghost use Rattle.flight_state.specs.declared.event.Event.TheVariants.{Abort};
 ghost use Rattle.flight_state.specs.Ended.{ended};
 ghost use Rattle.flight_state.specs.State.{IsQuiet, IsClosed};
 ghost use Rattle.flight_state.specs.Steps.{Run, opening};
-ghost use Rattle.flight_state.specs.Worked.{greeting, greeting_events, greeting_end, greeting_graph, late, late_events, late_waiting, late_rest, late_end, late_graph, late_so_far, late_aborted, aborted_graph};
+ghost use Rattle.flight_state.specs.Worked.{greeting, greeting_events, greeting_end, greeting_graph, late, late_events, late_waiting, late_rest, late_end, late_graph, late_so_far, late_aborted, aborted_graph, twice, twice_events, twice_end, twice_graph};
 
 /// `function App() { return "hello"; }`: one task and one row, `0:"hello"`.
 pub fn plain_value()
@@ -40,4 +40,14 @@ pub fn aborted_wait()
     ensures good { IsGood late_aborted.rows }
     ensures graph { DrawOneGraph (of_graph aborted_graph) (meaning late_aborted.rows) }
     ensures ended { DrawOneGraph (ended (codes "stopped") (plain late late_waiting.settled)) (meaning late_aborted.rows) }
+{}
+
+/// `[<Item/>, <Item/>]`, where both give one object: it is written where it is met first, `1:{"name":"Ada"}`, and the
+/// second task refers to it, `2:"$1"`.
+pub fn shared_object()
+    ensures valid { IsValidGround twice }
+    ensures run { Run twice twice_events (opening twice) twice_end }
+    ensures closed { IsClosed twice_end }
+    ensures graph { DrawOneGraph (of_graph twice_graph) (meaning twice_end.rows) }
+    ensures same { DrawOneGraph (plain twice twice_end.settled) (meaning twice_end.rows) }
 {}
