@@ -43,7 +43,7 @@ use Rattle.flight_state.proofs.Apps.{app_body, component_body, root_rendered, al
 
 -- ---- the ground
 
-user_data : IsData user
+pub user_data : IsData user
 user_data = ((refl, refl), record { valid = record { few = omega arith; valid_root = tt; each = λ k d h. absurd (omega (arith, h)) }; root = tt; nodes = λ k d h. absurd (omega (arith, h)) })
 
 user_script : IsScript late.script

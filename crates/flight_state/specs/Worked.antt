@@ -1,9 +1,11 @@
 -- Worked runs: small programs, step by step, with the rows that go out.
-use Rattle.std.specs.Prelude.{ℕ, Bool, true, false, List, [], ◌∷◌, codes}
+use Rattle.std.specs.Prelude.{ℕ, Bool, true, false, List, [], ◌∷◌, None, codes}
 use Rattle.flight_value.specs.declared.graph.Atom.{Atom}
 use Rattle.flight_value.specs.declared.graph.Atom.TheVariants as atom
 use Rattle.flight_value.specs.declared.graph.Slot.TheVariants as slot
 use Rattle.flight_value.specs.declared.graph.Node.TheVariants as node
+use Rattle.flight_value.specs.declared.graph.Flow.TheVariants as flow
+use Rattle.flight_value.specs.declared.graph.End.TheVariants as end
 use Rattle.flight_value.specs.declared.graph.Graph.{Graph}
 use Rattle.flight_value.specs.declared.key.Key.TheVariants as key
 use Rattle.flight_value.specs.declared.made.MadeKind.TheVariants as kind
@@ -26,7 +28,7 @@ use Rattle.flight_meaning.specs.declared.place.Place.{Place}
 use Rattle.flight_meaning.specs.declared.place.Place.TheVariants as place
 use Rattle.flight_meaning.specs.declared.place.PlacedRow.{PlacedRow}
 use Rattle.flight_meaning.specs.Linked.{first_place}
-use Rattle.flight_meaning.specs.Meaning.{made_at}
+use Rattle.flight_meaning.specs.Meaning.{made_at, stream_of}
 use Rattle.flight_state.specs.declared.status.Status.{Status}
 use Rattle.flight_state.specs.declared.status.Status.TheVariants as status
 use Rattle.flight_state.specs.declared.event.Event.{Event}
@@ -247,3 +249,48 @@ twice_graph =
           node.Array (slot.Node 1 ∷ slot.Node 1 ∷ [])
           ∷ node.Object (record { name = codes "name"; slot = slot.Atom ada } ∷ []) ∷ [];
     }
+
+-- ---- a stream: `function App() { return feed; }`, a stream of one item
+
+-- the item comes from the data `user`, the text "Ada"; there is no final value
+abbrev pub feed : Flowing
+feed = record { name = codes "feed"; flow = flow.Readable; items = 0 ∷ []; last = None }
+
+abbrev pub streamed : Ground
+streamed = app_over (component (codes "App") (expr.Stream (codes "feed")) ∷ []) (user ∷ []) (feed ∷ [])
+
+-- the tasks of the stream have its id: that of its item, and that of its end
+abbrev pub item_of_feed : Status → ℕ → List Bool → Task
+item_of_feed s turns remembered = record { id = 1; what = what.Item 0 0; status = s; turns = turns; remembered = remembered }
+
+abbrev pub end_of_feed : Status → ℕ → List Bool → Task
+end_of_feed s turns remembered = record { id = 1; what = what.Last 0; status = s; turns = turns; remembered = remembered }
+
+-- the row that opens the stream has no places, and the row that closes it `undefined`
+abbrev pub opens_feed : PlacedRow
+opens_feed = record { id = 1; tree = record { kind = row.Open flow.Readable; places = [] } }
+
+abbrev pub closes_feed : PlacedRow
+closes_feed = record { id = 1; tree = record { kind = row.Close; places = place.Atom atom.Undefined ∷ [] } }
+
+-- the stream is opened; its item is there, and goes out; then it is closed
+abbrev pub streamed_events : List Event
+streamed_events = event.Take 0 ∷ event.Done 0 ∷ event.Ping 0 ∷ event.Take 1 ∷ event.Done 1 ∷ event.Take 2 ∷ event.Done 2 ∷ []
+
+-- Four rows went out: `1:R` and `0:"$1"`, then `1:"Ada"`, then `1:C`. The body of `App` cost 2.
+abbrev pub streamed_end : State
+streamed_end =
+    record {
+      rows = opens_feed ∷ model 0 (place.Value (record { id = 1; path = [] }) ∷ []) ∷ model 1 (place.Atom ada ∷ []) ∷ closes_feed ∷ [];
+      tasks = root_done (false ∷ []) ∷ item_of_feed status.Done 1 (true ∷ []) ∷ end_of_feed status.Done 1 (true ∷ []) ∷ [];
+      settled = true ∷ [];
+      homes = (key.Stream 0, stream_of 1) ∷ [];
+      others = [];
+      counted = ([], 2) ∷ [];
+      ended = [];
+      over = false;
+    }
+
+-- a stream of one text, which is closed without a value
+abbrev pub streamed_graph : Graph
+streamed_graph = record { root = slot.Node 0; nodes = node.Stream flow.Readable (slot.Atom ada ∷ []) (end.Closed (slot.Atom atom.Undefined)) ∷ [] }

@@ -8,7 +8,7 @@ ghost use Rattle.flight_state.specs.declared.event.Event.TheVariants.{Abort};
 ghost use Rattle.flight_state.specs.Ended.{ended};
 ghost use Rattle.flight_state.specs.State.{IsQuiet, IsClosed};
 ghost use Rattle.flight_state.specs.Steps.{Run, opening};
-ghost use Rattle.flight_state.specs.Worked.{greeting, greeting_events, greeting_end, greeting_graph, late, late_events, late_waiting, late_rest, late_end, late_graph, late_so_far, late_aborted, aborted_graph, twice, twice_events, twice_end, twice_graph};
+ghost use Rattle.flight_state.specs.Worked.{greeting, greeting_events, greeting_end, greeting_graph, late, late_events, late_waiting, late_rest, late_end, late_graph, late_so_far, late_aborted, aborted_graph, twice, twice_events, twice_end, twice_graph, streamed, streamed_events, streamed_end, streamed_graph};
 
 /// `function App() { return "hello"; }`: one task and one row, `0:"hello"`.
 pub fn plain_value()
@@ -50,4 +50,14 @@ pub fn shared_object()
     ensures closed { IsClosed twice_end }
     ensures graph { DrawOneGraph (of_graph twice_graph) (meaning twice_end.rows) }
     ensures same { DrawOneGraph (plain twice twice_end.settled) (meaning twice_end.rows) }
+{}
+
+/// A stream of one item: `1:R` opens it and `0:"$1"` refers to it; its item, `1:"Ada"`, and its end, `1:C`, follow as
+/// rows of the same id.
+pub fn stream_of_one()
+    ensures valid { IsValidGround streamed }
+    ensures run { Run streamed streamed_events (opening streamed) streamed_end }
+    ensures closed { IsClosed streamed_end }
+    ensures graph { DrawOneGraph (of_graph streamed_graph) (meaning streamed_end.rows) }
+    ensures same { DrawOneGraph (plain streamed streamed_end.settled) (meaning streamed_end.rows) }
 {}
