@@ -1,7 +1,14 @@
 -- Grounds whose first component is `App`: their bodies by the terms that are written there.
-use Rattle.std.proofs.Common.{◌≡◌, ℕ, Bool, List, [], Some, None, refl, ap, ◌∙◌}
+use Rattle.std.proofs.Common.{◌≡◌, ◌<◌, map, length, arith, ℕ, Bool, List, [], ◌∷◌, Some, None, refl, ap, ◌∙◌}
 use Rattle.std.proofs.lemmas.Option.{none-some}
-use Rattle.std.specs.Prelude.{slice_get}
+use Rattle.std.specs.Prelude.{slice_get, ◌^◌}
+use Rattle.std.specs.List.{AllByRecursion}
+use Rattle.std.specs.List.Sorted.{IsStrictlySortedBy}
+use Rattle.std.proofs.lemmas.List.Elements.{All-from_recursion}
+use Rattle.flight_value.specs.Graph.{Ascend}
+use Rattle.flight_syntax.specs.declared.script.Data.{Data}
+use Rattle.flight_syntax.specs.declared.script.Flowing.{Flowing}
+use Rattle.flight_syntax.specs.Script.{IsScript, IsData, IsFlowing}
 use Rattle.flight_value.specs.declared.made.Made.{Made}
 use Rattle.flight_value.specs.declared.made.Tree.{Tree}
 use Rattle.flight_syntax.specs.declared.expr.Expr.{Expr}
@@ -57,3 +64,33 @@ all_seen g settled = record { look = node_at g settled; ends = λ n. None; table
 
 pub all_shows : (g : Ground) (settled : List Bool) → Shows g settled (all_seen g settled)
 all_shows g settled = record { nodes = λ n m h. h; ends = λ n end h. absurd (none-some end h); tables = λ n m h is. refl }
+
+-- ---- scripts with no settlers, and names of components
+
+pub app_script : (sources : List Data) (streams : List Flowing) → length sources < 2 ^ 32 → length streams < 2 ^ 32 → Ascend (map (λ (d : Data). d.name) sources) → Ascend (map (λ (f : Flowing). f.name) streams)
+    → AllByRecursion IsData sources → AllByRecursion (IsFlowing (length sources)) streams → IsScript (record { sources = sources; streams = streams; settlers = [] })
+app_script sources streams few_sources few_streams names flows each_source each_stream =
+    record {
+      few_sources = few_sources;
+      few_streams = few_streams;
+      sources = names;
+      each_source = All-from_recursion IsData sources each_source;
+      streams = flows;
+      each_stream = All-from_recursion (IsFlowing (length sources)) streams each_stream;
+      few_settlers = omega arith;
+      each_settler = λ k d h. absurd (omega (arith, h));
+      once = λ i j d h k. absurd (omega (arith, k));
+    }
+
+pub one_name : (name : List ℕ) → Ascend (name ∷ [])
+unfolding IsStrictlySortedBy
+one_name name = (tt, tt)
+
+pub no_name : Ascend []
+unfolding IsStrictlySortedBy
+no_name = tt
+
+-- the first letter of a name, or the first item of an address
+abbrev pub starts : List ℕ → ℕ
+starts [] = 0
+starts (x ∷ xs) = x

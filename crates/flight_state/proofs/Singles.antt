@@ -1,4 +1,4 @@
--- What stands in lists that are written out, and rows alone: for worked examples.
+-- Lists that are written out, atoms that do not pend, and one row of a model: for what is worked by computing.
 use Rattle.std.proofs.Common.{◌≡◌, ℕ, zero, suc, Bool, true, false, cond, eqb, eqb-true, eq-eqb, ◌⊎◌, inl, inr, ⊎_elim, List, [], ◌∷◌, map, Option, Some, option_and_then, refl, sym, ap, ◌∙◌, subst, arith}
 use Rattle.std.proofs.lemmas.Option.{none-some, same_Some}
 use Rattle.std.specs.Prelude.{slice_get, Contains}
@@ -6,6 +6,8 @@ use Rattle.std.specs.List.{AllByRecursion}
 use Rattle.flight_value.specs.Listed.{In, Distinct}
 use Rattle.flight_value.specs.Store as store
 use Rattle.flight_value.specs.Store.{Label, Shape}
+use Rattle.flight_value.specs.declared.graph.Atom.{Atom}
+use Rattle.flight_value.specs.declared.graph.Atom.TheVariants as atom
 use Rattle.flight_value.specs.declared.key.Key.{Key}
 use Rattle.flight_text.specs.declared.mark.Ref.{Ref}
 use Rattle.flight_row.specs.declared.row.RowKind.{RowKind}
@@ -15,10 +17,11 @@ use Rattle.flight_render.specs.Jobs.{Value}
 use Rattle.flight_meaning.specs.declared.place.Place.{Place}
 use Rattle.flight_meaning.specs.declared.place.PlaceTree.{PlaceTree}
 use Rattle.flight_meaning.specs.declared.place.PlacedRow.{PlacedRow}
-use Rattle.flight_meaning.specs.Linked.{rows_of, Spot, place_at}
-use Rattle.flight_meaning.specs.Resolve.{to, found, Found, Ends}
+use Rattle.flight_meaning.specs.Linked.{rows_of, Spot, place_at, first_place}
+use Rattle.flight_meaning.specs.Resolve.{go_to, to, found, Found, Ends}
 use Rattle.flight_meaning.specs.Meaning.{Identity, made_at}
 use Rattle.flight_meaning.proofs.Walking.{one_end}
+use Rattle.flight_state.specs.Emits.{HasValueRow}
 use Rattle.flight_state.specs.Local.{Seen, NamesAt, shape_seen, IsOnce}
 use Rattle.flight_state.specs.Worked.{model}
 use Rattle.flight_state.proofs.LastRows.{rows_of-cons}
@@ -54,6 +57,15 @@ in_contains [] x i = absurd i
 in_contains (y ∷ ys) x (inl e) = (0, omega arith, sym e)
 in_contains (y ∷ ys) x (inr i) = let r = in_contains ys x i in (suc r.0, omega (arith, r.1), r.2)
 
+-- ---- atoms that do not pend
+
+abbrev pub IsSure : Atom → Type 0
+IsSure atom.Pending = ⊥
+IsSure a = Unit {0}
+
+pub sure : (a : Atom) → IsSure a → a ≡ atom.Pending → ⊥
+sure a is e = subst IsSure e is
+
 -- ---- one row of a model
 
 abbrev tree_of : List Place → PlaceTree
@@ -88,6 +100,13 @@ row_places id places s p h = ⊎_elim (λ e. by s.id e.0 s.nth s.at (sym (ap (λ
     by : (i : ℕ) → i ≡ id → (nth n : ℕ) → option_and_then (λ (t : PlaceTree). slice_get t.places n) (slice_get (tree_of places ∷ []) nth) ≡ Some p → (◌≡◌ {A = Spot} (record { id = i; nth = nth; at = n }) (record { id = id; nth = 0; at = n })) × (slice_get places n ≡ Some p)
     by i e zero n q = (ap (λ z. record { id = z; nth = 0; at = n }) e, q)
     by i e (suc nth) n q = absurd (none-some p q)
+
+-- the root place
+pub row_root : (id : ℕ) (at : Place) (others : List Place) → place_at (model id (at ∷ others) ∷ []) (first_place id) ≡ Some at
+row_root id at others = ap (λ ts. option_and_then (λ (t : PlaceTree). slice_get t.places 0) (slice_get ts 0)) (row_own id (at ∷ others))
+
+pub row_value : (id : ℕ) (places : List Place) → HasValueRow (model id places ∷ []) id
+row_value id places = ap (λ ts. go_to id ts []) (row_own id places)
 
 -- ---- a node at a place, by a reference
 

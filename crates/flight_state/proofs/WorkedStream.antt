@@ -2,7 +2,6 @@
 use Rattle.std.proofs.Common.{◌≡◌, ℕ, Bool, true, false, ◌⊎◌, inl, inr, ⊎_elim, List, [], ◌∷◌, zero, suc, Some, None, refl, sym, ap, ◌∙◌, subst, arith, option_and_then, append-nil, ◌<◌}
 use Rattle.std.proofs.lemmas.Option.{none-some, same_Some}
 use Rattle.std.specs.Prelude.{codes, slice_get}
-use Rattle.std.specs.List.Sorted.{IsStrictlySortedBy}
 use Rattle.std.proofs.lemmas.List.Elements.{All-from_recursion}
 use Rattle.flight_value.specs.Store as store
 use Rattle.flight_value.specs.Store.{DrawOneGraph, of_graph, Paired, Shape}
@@ -17,7 +16,6 @@ use Rattle.flight_value.specs.Listed.{In}
 use Rattle.flight_text.specs.declared.mark.Ref.{Ref}
 use Rattle.flight_syntax.specs.declared.expr.Expr.{Expr}
 use Rattle.flight_syntax.specs.declared.expr.Expr as expr
-use Rattle.flight_syntax.specs.Script.{IsScript, IsData}
 use Rattle.flight_syntax.specs.Term as term
 use Rattle.flight_syntax.specs.Term.{Term}
 use Rattle.flight_render.specs.declared.job.What.{What}
@@ -43,8 +41,8 @@ use Rattle.flight_state.specs.Local as local
 use Rattle.flight_state.specs.Local.{WritesHere, Homes, Births, Seen, IsNodeKey, IsRowKey, EmitsHere, job_seen, shape_seen}
 use Rattle.flight_state.specs.Worked.{ada, root_done, model}
 use Rattle.flight_state.proofs.Going.{Going, opens, takes, writes, pings}
-use Rattle.flight_state.proofs.Apps.{app_body, root_rendered, all_seen, all_shows}
-use Rattle.flight_state.proofs.Singles.{each_in, contains_in, in_contains}
+use Rattle.flight_state.proofs.Apps.{app_script, one_name, app_body, root_rendered, all_seen, all_shows}
+use Rattle.flight_state.proofs.Singles.{sure, each_in, contains_in, in_contains}
 use Rattle.flight_value.specs.declared.graph.Flow.TheVariants as flow
 use Rattle.flight_syntax.specs.Script.{IsFlowing}
 use Rattle.flight_syntax.proofs.Terms.{term-Stream}
@@ -67,21 +65,6 @@ use Rattle.std.proofs.lemmas.Bool.{ne_eqb}
 feed_flows : IsFlowing 1 feed
 feed_flows = record { named = (refl, refl); few = omega arith; items = All-from_recursion (λ source. source < 1) (0 ∷ []) (omega arith, tt); last = λ source h. absurd (none-some source h) }
 
-feed_script : IsScript streamed.script
-unfolding IsStrictlySortedBy
-feed_script =
-    record {
-      few_sources = omega arith;
-      few_streams = omega arith;
-      sources = (tt, tt);
-      each_source = All-from_recursion IsData (user ∷ []) (user_data, tt);
-      streams = (tt, tt);
-      each_stream = All-from_recursion (IsFlowing 1) (feed ∷ []) (feed_flows, tt);
-      few_settlers = omega arith;
-      each_settler = λ k d h. absurd (omega (arith, h));
-      once = λ i j d h k. absurd (omega (arith, k));
-    }
-
 pub streamed_valid : IsValidGround streamed
 streamed_valid =
     record {
@@ -89,7 +72,7 @@ streamed_valid =
       one_component = (tt, tt);
       one_action = tt;
       has_app = (0, ([], (expr.Stream (codes "feed"), refl)));
-      script = feed_script;
+      script = app_script (user ∷ []) (feed ∷ []) (omega arith) (omega arith) (one_name user.name) (one_name feed.name) (user_data, tt) (feed_flows, tt);
       first = tt;
     }
 
@@ -346,14 +329,6 @@ item_finishes =
       rest = refl;
     }
 
-IsPending : Atom → Type 0
-IsPending atom.Pending = ⊥
-IsPending a = Unit {0}
-
-sure : (a : Atom) → IsPending a → a ≡ atom.Pending → ⊥
-unfolding IsPending
-sure a is e = subst IsPending e is
-
 abbrev there : Atom → MeantThere
 there a = (0, shown (tree.Atom a)) ∷ []
 
@@ -365,7 +340,7 @@ atom_held a zero at h = inl (subst IsPlain (same_Some (place.Atom a) at h) tt)
 atom_held a (suc n) at h = absurd (none-some at h)
 
 item_writes : StreamsOn streamed item_running item_written 1 2 2 feed_homes feed_homes
-unfolding nothing IsPending
+unfolding nothing
 item_writes =
     record {
       step = item_finishes;
@@ -425,7 +400,7 @@ end_finishes =
     }
 
 end_writes : StreamsOn streamed end_running streamed_end 2 2 2 feed_homes feed_homes
-unfolding nothing IsPending
+unfolding nothing
 end_writes =
     record {
       step = end_finishes;

@@ -10,7 +10,6 @@ use Rattle.flight_value.specs.Graph.{IsValidNode, IsValidSlot}
 use Rattle.flight_value.specs.declared.graph.Node.{Node}
 use Rattle.flight_value.specs.declared.graph.Node.TheVariants as node
 use Rattle.flight_value.specs.declared.graph.Slot.TheVariants as slot
-use Rattle.flight_value.specs.declared.graph.Atom.{Atom}
 use Rattle.flight_value.specs.declared.graph.Atom.TheVariants as atom
 use Rattle.flight_value.specs.declared.key.Key.{Key}
 use Rattle.flight_value.specs.declared.key.Key.TheVariants as key
@@ -23,7 +22,7 @@ use Rattle.flight_text.specs.declared.mark.Ref.{Ref}
 use Rattle.flight_syntax.specs.declared.expr.Expr.{Expr}
 use Rattle.flight_syntax.specs.declared.expr.Expr as expr
 use Rattle.flight_syntax.specs.declared.expr.Tag.TheVariants as tag
-use Rattle.flight_syntax.specs.Script.{IsScript, IsData, IsSourceSlot, IsSourceNode}
+use Rattle.flight_syntax.specs.Script.{IsData, IsSourceSlot, IsSourceNode}
 use Rattle.flight_syntax.specs.Term as term
 use Rattle.flight_syntax.specs.Term.{Term}
 use Rattle.flight_syntax.proofs.Terms.{term-Array, term-Element, term-Source}
@@ -53,8 +52,8 @@ use Rattle.flight_state.specs.Local.{WritesHere, Homes, Births, Seen, IsNodeKey,
 use Rattle.flight_state.specs.Worked.{ada, profile, twice, item_made, item, other_item, both_items, twice_made, first_task_of, second_task_of, root_done, twice_events, twice_end, twice_graph, model}
 use Rattle.flight_state.proofs.Examples.{bare_here, element_job, nameless}
 use Rattle.flight_state.proofs.Going.{Going, opens, takes, writes, pings}
-use Rattle.flight_state.proofs.Apps.{app_body, component_body, root_rendered, all_seen, all_shows}
-use Rattle.flight_state.proofs.Singles.{each_in, once_by, contains_in, in_contains, row_rows, row_once, row_places, is_placed}
+use Rattle.flight_state.proofs.Apps.{app_script, no_name, one_name, starts, app_body, component_body, root_rendered, all_seen, all_shows}
+use Rattle.flight_state.proofs.Singles.{sure, each_in, once_by, contains_in, in_contains, row_rows, row_once, row_places, is_placed}
 
 -- ---- the ground
 
@@ -76,26 +75,6 @@ profile_data = (
   },
 )
 
-profile_script : IsScript twice.script
-unfolding IsStrictlySortedBy
-profile_script =
-    record {
-      few_sources = omega arith;
-      few_streams = omega arith;
-      sources = (tt, tt);
-      each_source = All-from_recursion IsData (profile ∷ []) (profile_data, tt);
-      streams = tt;
-      each_stream = λ k d h. absurd (omega (arith, h));
-      few_settlers = omega arith;
-      each_settler = λ k d h. absurd (omega (arith, h));
-      once = λ i j d h k. absurd (omega (arith, k));
-    }
-
--- the first letter
-abbrev starts : List ℕ → ℕ
-starts [] = 0
-starts (x ∷ xs) = x
-
 abbrev item_expr : Expr
 item_expr = expr.Element (tag.Server 1) [] []
 
@@ -115,7 +94,7 @@ twice_valid =
       one_component = ((λ e. omega (arith, ap starts e), tt), (tt, tt));
       one_action = tt;
       has_app = (0, ([], (expr.Array (item_expr ∷ item_expr ∷ []), refl)));
-      script = profile_script;
+      script = app_script (profile ∷ []) [] (omega arith) (omega arith) (one_name profile.name) no_name (profile_data, tt) tt;
       first = tt;
     }
   where
@@ -358,14 +337,6 @@ object_named k a i (inl e) p =
 object_names : local.Names twice after object_row (key.Source 0 0) (row_ref 1) (made_at (first_place 1))
 object_names = (object_shape, refl, (first_place 1, refl, (2, refl)))
 
-IsPending : Atom → Type 0
-IsPending atom.Pending = ⊥
-IsPending a = Unit {0}
-
-sure : ada ≡ atom.Pending → ⊥
-unfolding IsPending
-sure e = subst IsPending e tt
-
 object_here : EmitsHere twice after (shown (tree.FromSource 0 0)) 1 3 3 array_homes (array_homes ++ object_homes) object_row [] object_meant
 object_here =
     record {
@@ -399,7 +370,7 @@ object_here =
         ) (k, a) i;
         places = λ s v i. each_in (λ (z : Spot × Value). (at : Place) × (place_at object_row z.0 ≡ Some at) × local.WrittenHere twice after (array_homes ++ object_homes) object_homes object_row (Some z.0) at z.1) object_meant (
           (place.Object (record { name = codes "name"; place = 1 } ∷ []), refl, local.its_home (key.Source 0 0) (row_ref 1) (first_place 1) refl tt refl refl tt (inl refl) object_names),
-          ((place.Atom ada, refl, local.an_atom ada refl refl sure), tt),
+          ((place.Atom ada, refl, local.an_atom ada refl refl (sure ada tt)), tt),
         ) (s, v) i;
         born_once = tt;
         born_fresh = λ u w i. absurd i;

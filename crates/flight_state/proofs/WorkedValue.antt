@@ -2,12 +2,9 @@
 use Rattle.std.proofs.Common.{◌≡◌, ℕ, inl, inr, List, [], ◌∷◌, refl, sym, ap, subst, arith}
 use Rattle.std.proofs.lemmas.Option.{none-some}
 use Rattle.std.specs.Prelude.{codes}
-use Rattle.std.specs.List.Sorted.{IsStrictlySortedBy}
 use Rattle.std.proofs.lemmas.List.Elements.{All-from_recursion}
 use Rattle.flight_value.specs.Store as store
 use Rattle.flight_value.specs.Store.{DrawOneGraph, of_graph, Paired}
-use Rattle.flight_value.specs.declared.graph.Atom.{Atom}
-use Rattle.flight_value.specs.declared.graph.Atom.TheVariants as atom
 use Rattle.flight_value.specs.declared.made.Tree.{Tree}
 use Rattle.flight_value.specs.declared.made.Tree.TheVariants as tree
 use Rattle.flight_syntax.specs.declared.expr.Expr as expr
@@ -28,30 +25,20 @@ use Rattle.flight_state.specs.Steps.{taken, first_task, opening, DoneStep, TakeS
 use Rattle.flight_state.specs.Local.{WritesHere}
 use Rattle.flight_state.specs.Worked.{hello, greeting, greeting_events, greeting_end, greeting_graph, component}
 use Rattle.flight_state.proofs.Examples.{bare_here, atom_here}
+use Rattle.flight_state.proofs.Singles.{sure}
 use Rattle.flight_state.proofs.Going.{Going, opens, takes, writes}
-use Rattle.flight_state.proofs.Apps.{app_body, root_rendered, all_seen, all_shows}
+use Rattle.flight_state.proofs.Apps.{app_script, no_name, app_body, root_rendered, all_seen, all_shows}
 
 -- ---- the ground
 
 pub greeting_valid : IsValidGround greeting
-unfolding IsStrictlySortedBy
 greeting_valid =
     record {
       each = All-from_recursion (IsDeclared greeting) (component (codes "App") (expr.Atom hello) ∷ []) ((tt, subst (IsLawful greeting 0) (sym (term-Atom hello)) tt), tt);
       one_component = (tt, tt);
       one_action = tt;
       has_app = (0, ([], (expr.Atom hello, refl)));
-      script = record {
-        few_sources = omega arith;
-        few_streams = omega arith;
-        sources = tt;
-        each_source = λ k d h. absurd (omega (arith, h));
-        streams = tt;
-        each_stream = λ k d h. absurd (omega (arith, h));
-        few_settlers = omega arith;
-        each_settler = λ k d h. absurd (omega (arith, h));
-        once = λ i j d h k. absurd (omega (arith, k));
-      };
+      script = app_script [] [] (omega arith) (omega arith) no_name no_name tt tt;
       first = tt;
     }
 
@@ -86,14 +73,6 @@ done_first =
       rest = refl;
     }
 
-IsPending : Atom → Type 0
-IsPending atom.Pending = ⊥
-IsPending a = Unit {0}
-
-sure : hello ≡ atom.Pending → ⊥
-unfolding IsPending
-sure e = subst IsPending e tt
-
 write_first : WritesHere greeting running greeting_end 0 1 1 [] []
 unfolding bare_here
 write_first =
@@ -105,7 +84,7 @@ write_first =
       rows = greeting_end.rows;
       births = [];
       meant = (first_place 0, shown (tree.Atom hello)) ∷ [];
-      local = atom_here greeting (all_seen greeting []) hello sure 0 1 [];
+      local = atom_here greeting (all_seen greeting []) hello (sure hello tt) 0 1 [];
       adopts = record {
         same_rows = refl;
         same_births = refl;

@@ -2,11 +2,9 @@
 use Rattle.std.proofs.Common.{◌≡◌, ℕ, Bool, true, false, inl, inr, ⊎_elim, length, List, [], ◌∷◌, ◌++◌, Some, None, refl, sym, ap, ◌∙◌, subst, arith}
 use Rattle.std.proofs.lemmas.Option.{none-some}
 use Rattle.std.specs.Prelude.{codes, if◌then◌else◌}
-use Rattle.std.specs.List.Sorted.{IsStrictlySortedBy}
 use Rattle.std.proofs.lemmas.List.Elements.{All-from_recursion}
 use Rattle.flight_value.specs.Store as store
 use Rattle.flight_value.specs.Store.{DrawOneGraph, of_graph, Paired}
-use Rattle.flight_value.specs.declared.graph.Atom.{Atom}
 use Rattle.flight_value.specs.declared.graph.Atom.TheVariants as atom
 use Rattle.flight_value.specs.declared.key.Key.TheVariants as key
 use Rattle.flight_value.specs.declared.made.Tree.{Tree}
@@ -14,7 +12,7 @@ use Rattle.flight_value.specs.declared.made.Tree.TheVariants as tree
 use Rattle.flight_value.specs.Listed.{In}
 use Rattle.flight_syntax.specs.declared.expr.Expr as expr
 use Rattle.flight_syntax.specs.declared.expr.Tag.TheVariants as tag
-use Rattle.flight_syntax.specs.Script.{IsScript, IsData}
+use Rattle.flight_syntax.specs.Script.{IsData}
 use Rattle.flight_syntax.specs.Term as term
 use Rattle.flight_syntax.proofs.Terms.{term-Element, term-Source}
 use Rattle.flight_render.specs.Run.{gave, waits, Run}
@@ -38,33 +36,14 @@ use Rattle.flight_render.specs.declared.job.What.TheVariants as what
 use Rattle.flight_state.specs.declared.event.Event.{Event}
 use Rattle.flight_state.specs.Worked.{ada, user, late, props_made, item_made, item, item_task, root_done, late_events, late_waiting, late_rest, late_end, late_graph, late_so_far, model}
 use Rattle.flight_state.proofs.Examples.{bare_here, atom_here, element_here, element_home, element_only}
+use Rattle.flight_state.proofs.Singles.{sure}
 use Rattle.flight_state.proofs.Going.{Going, opens, takes, writes, stops, pings}
-use Rattle.flight_state.proofs.Apps.{app_body, component_body, root_rendered, all_seen, all_shows}
+use Rattle.flight_state.proofs.Apps.{app_script, no_name, one_name, starts, app_body, component_body, root_rendered, all_seen, all_shows}
 
 -- ---- the ground
 
 pub user_data : IsData user
 user_data = ((refl, refl), record { valid = record { few = omega arith; valid_root = tt; each = λ k d h. absurd (omega (arith, h)) }; root = tt; nodes = λ k d h. absurd (omega (arith, h)) })
-
-user_script : IsScript late.script
-unfolding IsStrictlySortedBy
-user_script =
-    record {
-      few_sources = omega arith;
-      few_streams = omega arith;
-      sources = (tt, tt);
-      each_source = All-from_recursion IsData (user ∷ []) (user_data, tt);
-      streams = tt;
-      each_stream = λ k d h. absurd (omega (arith, h));
-      few_settlers = omega arith;
-      each_settler = λ k d h. absurd (omega (arith, h));
-      once = λ i j d h k. absurd (omega (arith, k));
-    }
-
--- the first letter
-abbrev starts : List ℕ → ℕ
-starts [] = 0
-starts (x ∷ xs) = x
 
 pub late_valid : IsValidGround late
 late_valid =
@@ -76,7 +55,7 @@ late_valid =
       one_component = ((λ e. omega (arith, ap starts e), tt), (tt, tt));
       one_action = tt;
       has_app = (0, ([], (expr.Element (tag.Server 1) [] [], refl)));
-      script = user_script;
+      script = app_script (user ∷ []) [] (omega arith) (omega arith) (one_name user.name) no_name (user_data, tt) tt;
       first = tt;
     }
 
@@ -282,14 +261,6 @@ item_finishes =
       rest = refl;
     }
 
-IsPending : Atom → Type 0
-IsPending atom.Pending = ⊥
-IsPending a = Unit {0}
-
-sure : ada ≡ atom.Pending → ⊥
-unfolding IsPending
-sure e = subst IsPending e tt
-
 item_writes : WritesHere late item_again late_end 1 2 2 (element_home item 1 ∷ []) (element_home item 1 ∷ [])
 unfolding bare_here
 item_writes =
@@ -301,7 +272,7 @@ item_writes =
       rows = model 1 (place.Atom ada ∷ []) ∷ [];
       births = [];
       meant = (first_place 1, shown (tree.Atom ada)) ∷ [];
-      local = atom_here late (all_seen late (true ∷ [])) ada sure 1 2 (element_home item 1 ∷ []);
+      local = atom_here late (all_seen late (true ∷ [])) ada (sure ada tt) 1 2 (element_home item 1 ∷ []);
       adopts = record {
         same_rows = refl;
         same_births = refl;
