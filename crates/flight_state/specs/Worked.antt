@@ -27,7 +27,7 @@ use Rattle.flight_render.specs.declared.job.What.TheVariants as what
 use Rattle.flight_meaning.specs.declared.place.Place.{Place}
 use Rattle.flight_meaning.specs.declared.place.Place.TheVariants as place
 use Rattle.flight_meaning.specs.declared.place.PlacedRow.{PlacedRow}
-use Rattle.flight_meaning.specs.Linked.{first_place}
+use Rattle.flight_meaning.specs.Linked.{first_place, beside}
 use Rattle.flight_meaning.specs.Meaning.{made_at, stream_of}
 use Rattle.flight_state.specs.declared.status.Status.{Status}
 use Rattle.flight_state.specs.declared.status.Status.TheVariants as status
@@ -294,3 +294,55 @@ streamed_end =
 -- a stream of one text, which is closed without a value
 abbrev pub streamed_graph : Graph
 streamed_graph = record { root = slot.Node 0; nodes = node.Stream flow.Readable (slot.Atom ada ∷ []) (end.Closed (slot.Atom atom.Undefined)) ∷ [] }
+
+-- ---- an element of the host, and a component in place: `function App() { return <p><Item/></p>; }` and
+-- `function Item() { return "hello"; }`
+
+abbrev pub nested : Ground
+nested = app_over (component (codes "App") (expr.Element (tag.Host (codes "p")) [] (expr.Element (tag.Server 1) [] [] ∷ [])) ∷ component (codes "Item") (expr.Atom hello) ∷ []) [] []
+
+abbrev pub attributes : Name
+attributes = record { render = []; serial = 2 }
+
+abbrev pub paragraph : Name
+paragraph = record { render = []; serial = 3 }
+
+-- what the body of `App` makes: `<Item/>` after its props, then the props of `<p>`, then `<p>`
+abbrev pub nested_made : List Made
+nested_made =
+    props_made ∷ item_made
+    ∷ record { kind = kind.Object (codes "children" ∷ []); slots = tree.Made item ∷ [] }
+    ∷ record { kind = kind.Element; slots = tree.Atom (atom.Text (codes "p")) ∷ tree.Atom atom.Null ∷ tree.Made attributes ∷ [] } ∷ []
+
+abbrev pub nested_events : List Event
+nested_events = event.Take 0 ∷ event.Done 0 ∷ []
+
+-- One row went out, `0:["$","p",null,{"children":"hello"}]`: `Item` waits for nothing, so what it gives stands in its place,
+-- and no task is born. The mark `"$"` has a place of its own. Both bodies are counted.
+abbrev pub nested_end : State
+nested_end =
+    record {
+      rows =
+          model 0 (
+          place.Element 2 3 4 ∷ place.Atom (atom.Text (codes "$"))
+          ∷ place.Atom (atom.Text (codes "p")) ∷ place.Atom atom.Null
+          ∷ place.Object (record { name = codes "children"; place = 5 } ∷ []) ∷ place.Atom hello ∷ []
+          ) ∷ [];
+      tasks = root_done [] ∷ [];
+      settled = [];
+      homes = (key.Made paragraph, made_at (first_place 0)) ∷ (key.Made attributes, made_at (beside (first_place 0) 4)) ∷ [];
+      others = [];
+      counted = ([], 19) ∷ (1 ∷ [], 7) ∷ [];
+      ended = [];
+      over = false;
+    }
+
+-- an element with its props
+abbrev pub nested_graph : Graph
+nested_graph =
+    record {
+      root = slot.Node 0;
+      nodes =
+          node.Element (slot.Atom (atom.Text (codes "p"))) (slot.Atom atom.Null) (slot.Node 1)
+          ∷ node.Object (record { name = codes "children"; slot = slot.Atom hello } ∷ []) ∷ [];
+    }

@@ -8,7 +8,7 @@ ghost use Rattle.flight_state.specs.declared.event.Event.TheVariants.{Abort};
 ghost use Rattle.flight_state.specs.Ended.{ended};
 ghost use Rattle.flight_state.specs.State.{IsQuiet, IsClosed};
 ghost use Rattle.flight_state.specs.Steps.{Run, opening};
-ghost use Rattle.flight_state.specs.Worked.{greeting, greeting_events, greeting_end, greeting_graph, late, late_events, late_waiting, late_rest, late_end, late_graph, late_so_far, late_aborted, aborted_graph, twice, twice_events, twice_end, twice_graph, streamed, streamed_events, streamed_end, streamed_graph};
+ghost use Rattle.flight_state.specs.Worked.{greeting, greeting_events, greeting_end, greeting_graph, late, late_events, late_waiting, late_rest, late_end, late_graph, late_so_far, late_aborted, aborted_graph, twice, twice_events, twice_end, twice_graph, streamed, streamed_events, streamed_end, streamed_graph, nested, nested_events, nested_end, nested_graph};
 
 /// `function App() { return "hello"; }`: one task and one row, `0:"hello"`.
 pub fn plain_value()
@@ -60,4 +60,14 @@ pub fn stream_of_one()
     ensures closed { IsClosed streamed_end }
     ensures graph { DrawOneGraph (of_graph streamed_graph) (meaning streamed_end.rows) }
     ensures same { DrawOneGraph (plain streamed streamed_end.settled) (meaning streamed_end.rows) }
+{}
+
+/// `<p><Item/></p>`, where `Item` waits for nothing: `0:["$","p",null,{"children":"hello"}]` is one row of one task, and
+/// both bodies are counted.
+pub fn nested_element()
+    ensures valid { IsValidGround nested }
+    ensures run { Run nested nested_events (opening nested) nested_end }
+    ensures closed { IsClosed nested_end }
+    ensures graph { DrawOneGraph (of_graph nested_graph) (meaning nested_end.rows) }
+    ensures same { DrawOneGraph (plain nested nested_end.settled) (meaning nested_end.rows) }
 {}
