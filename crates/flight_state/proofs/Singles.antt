@@ -1,6 +1,7 @@
 -- Lists that are written out, atoms that do not pend, and one row of a model: for what is worked by computing.
 use Rattle.std.proofs.Common.{◌≡◌, ℕ, zero, suc, Bool, true, false, cond, eqb, eqb-true, eq-eqb, ◌⊎◌, inl, inr, ⊎_elim, List, [], ◌∷◌, map, Option, Some, option_and_then, refl, sym, ap, ◌∙◌, subst, arith}
 use Rattle.std.proofs.lemmas.Option.{none-some, same_Some}
+use Rattle.std.proofs.lemmas.Bool.{ne_eqb}
 use Rattle.std.specs.Prelude.{slice_get, Contains}
 use Rattle.std.specs.List.{AllByRecursion}
 use Rattle.flight_value.specs.Listed.{In, Distinct}
@@ -82,12 +83,11 @@ row_rows id places n = go (eqb id n) refl
     go true e = let same = eqb-true id n e in inl (sym same, subst (λ z. rows_of z (model id places ∷ []) ≡ tree_of places ∷ []) same (row_own id places))
     go false e = inr (rows_of-cons n (model id places) [] ∙ ap (λ b. cond b (tree_of places ∷ []) []) e)
 
-IsClose : RowKind → Type 0
+abbrev pub IsClose : RowKind → Type 0
 IsClose row.Close = Unit {0}
 IsClose k = ⊥
 
 pub row_once : (id : ℕ) (places : List Place) (n : ℕ) → IsOnce (rows_of n (model id places ∷ []))
-unfolding IsClose
 row_once id places n = ⊎_elim (λ e. subst IsOnce (sym e.1) (λ q. subst IsClose (sym q) tt)) (λ e. subst IsOnce (sym e) tt) (row_rows id places n)
 
 -- what stands at a place of the row
@@ -108,12 +108,51 @@ row_root id at others = ap (λ ts. option_and_then (λ (t : PlaceTree). slice_ge
 pub row_value : (id : ℕ) (places : List Place) → HasValueRow (model id places ∷ []) id
 row_value id places = ap (λ ts. go_to id ts []) (row_own id places)
 
+-- ---- a row 1, and then row 0
+
+abbrev pub two : PlaceTree → PlaceTree → List PlacedRow
+two one root = record { id = 1; tree = one } ∷ record { id = 0; tree = root } ∷ []
+
+none_further : (one root : PlaceTree) (n : ℕ) → rows_of (suc (suc n)) (two one root) ≡ []
+none_further one root n =
+    rows_of-cons (suc (suc n)) (record { id = 1; tree = one }) (record { id = 0; tree = root } ∷ [])
+    ∙ (ap (λ b. cond b (one ∷ rows_of (suc (suc n)) (record { id = 0; tree = root } ∷ [])) (rows_of (suc (suc n)) (record { id = 0; tree = root } ∷ []))) (ne_eqb 1 (suc (suc n)) (λ e. omega (arith, e)))
+    ∙ (rows_of-cons (suc (suc n)) (record { id = 0; tree = root }) [] ∙ ap (λ b. cond b (root ∷ []) []) (ne_eqb 0 (suc (suc n)) (λ e. omega (arith, e)))))
+
+pub two_rows : (one root : PlaceTree) (n : ℕ) → ((n ≡ 1) × (rows_of n (two one root) ≡ one ∷ [])) ⊎ (((n ≡ 0) × (rows_of n (two one root) ≡ root ∷ [])) ⊎ (rows_of n (two one root) ≡ []))
+two_rows one root zero = inr (inl (refl, refl))
+two_rows one root (suc zero) = inl (refl, refl)
+two_rows one root (suc (suc n)) = inr (inr (none_further one root n))
+
+pub two_once : (one root : PlaceTree) → (one.kind ≡ row.Close → ⊥) → (root.kind ≡ row.Close → ⊥) → (n : ℕ) → IsOnce (rows_of n (two one root))
+two_once one root f g n = ⊎_elim (λ e. subst IsOnce (sym e.1) f) (λ x. ⊎_elim (λ e. subst IsOnce (sym e.1) g) (λ e. subst IsOnce (sym e) tt) x) (two_rows one root n)
+
+-- a row that closes no stream
+pub no_close : (kind : RowKind) → (IsClose kind → ⊥) → kind ≡ row.Close → ⊥
+no_close kind f e = f (subst IsClose (sym e) tt)
+
+pub two_places : (one root : PlaceTree) (s : Spot) (p : Place) → place_at (two one root) s ≡ Some p
+    → ((s ≡ record { id = 1; nth = 0; at = s.at }) × (slice_get one.places s.at ≡ Some p)) ⊎ ((s ≡ record { id = 0; nth = 0; at = s.at }) × (slice_get root.places s.at ≡ Some p))
+two_places one root s p h = go s.id s.nth s.at h
+  where
+    look : (id : ℕ) (t : PlaceTree) (n k : ℕ) → option_and_then (λ (u : PlaceTree). slice_get u.places k) (slice_get (t ∷ []) n) ≡ Some p → (◌≡◌ {A = Spot} (record { id = id; nth = n; at = k }) (record { id = id; nth = 0; at = k })) × (slice_get t.places k ≡ Some p)
+    look id t zero k q = (refl, q)
+    look id t (suc n) k q = absurd (none-some p q)
+
+    go : (id n k : ℕ) → place_at (two one root) (record { id = id; nth = n; at = k }) ≡ Some p
+        → ((◌≡◌ {A = Spot} (record { id = id; nth = n; at = k }) (record { id = 1; nth = 0; at = k })) × (slice_get one.places k ≡ Some p)) ⊎ ((◌≡◌ {A = Spot} (record { id = id; nth = n; at = k }) (record { id = 0; nth = 0; at = k })) × (slice_get root.places k ≡ Some p))
+    go zero n k q = inr (look 0 root n k q)
+    go (suc zero) n k q = inl (look 1 one n k q)
+    go (suc (suc id)) n k q = absurd (none-some p (sym (ap (λ ts. option_and_then (λ (t : PlaceTree). slice_get t.places k) (slice_get ts n)) (none_further one root id)) ∙ q))
+
 -- ---- a node at a place, by a reference
 
 abbrev pub IsPlaceLabel : Label → Type 0
 IsPlaceLabel store.array = Unit {0}
 IsPlaceLabel (store.object names) = Unit {0}
 IsPlaceLabel store.element = Unit {0}
+IsPlaceLabel store.map_of = Unit {0}
+IsPlaceLabel store.set_of = Unit {0}
 IsPlaceLabel label = ⊥
 
 pub place_named : (label : Label) → IsPlaceLabel label → (rows : List PlacedRow) (a : Ref) (i : Identity) → NamesAt label rows a i → (s : Spot) × (i ≡ made_at s) × Ends rows (to a.id a.path) (found s)
@@ -121,8 +160,8 @@ place_named store.array is rows a i h = h
 place_named (store.object names) is rows a i h = h
 place_named store.element is rows a i h = h
 place_named store.promise is rows a i h = absurd is
-place_named store.map_of is rows a i h = absurd is
-place_named store.set_of is rows a i h = absurd is
+place_named store.map_of is rows a i h = h
+place_named store.set_of is rows a i h = h
 place_named (store.stream flow state) is rows a i h = absurd is
 place_named (store.action name) is rows a i h = absurd is
 

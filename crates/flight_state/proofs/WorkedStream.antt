@@ -1,5 +1,5 @@
 -- The worked run of a stream.
-use Rattle.std.proofs.Common.{◌≡◌, ℕ, Bool, true, false, ◌⊎◌, inl, inr, ⊎_elim, List, [], ◌∷◌, zero, suc, Some, None, refl, sym, ap, ◌∙◌, subst, arith, option_and_then, append-nil, ◌<◌}
+use Rattle.std.proofs.Common.{◌≡◌, ℕ, Bool, true, false, ◌⊎◌, inl, inr, ⊎_elim, List, [], ◌∷◌, zero, suc, Some, None, refl, sym, ap, ◌∙◌, subst, arith, append-nil, ◌<◌}
 use Rattle.std.proofs.lemmas.Option.{none-some, same_Some}
 use Rattle.std.specs.Prelude.{codes, slice_get}
 use Rattle.std.proofs.lemmas.List.Elements.{All-from_recursion}
@@ -42,7 +42,7 @@ use Rattle.flight_state.specs.Local.{WritesHere, Homes, Births, Seen, IsNodeKey,
 use Rattle.flight_state.specs.Worked.{ada, root_done, model}
 use Rattle.flight_state.proofs.Going.{Going, opens, takes, writes, pings}
 use Rattle.flight_state.proofs.Apps.{app_script, one_name, app_body, root_rendered, all_seen, all_shows}
-use Rattle.flight_state.proofs.Singles.{sure, each_in, contains_in, in_contains}
+use Rattle.flight_state.proofs.Singles.{two_rows, two_once, two_places, no_close, sure, each_in, contains_in, in_contains}
 use Rattle.flight_value.specs.declared.graph.Flow.TheVariants as flow
 use Rattle.flight_syntax.specs.Script.{IsFlowing}
 use Rattle.flight_syntax.proofs.Terms.{term-Stream}
@@ -51,14 +51,10 @@ use Rattle.flight_meaning.specs.Meaning.{stream_of}
 use Rattle.flight_row.specs.declared.row.RowKind.{RowKind}
 use Rattle.flight_row.specs.declared.row.RowKind.TheVariants as row
 use Rattle.flight_render.specs.Values.{undefined}
-use Rattle.flight_meaning.specs.declared.place.PlaceTree.{PlaceTree}
 use Rattle.flight_state.specs.Local.{AddsHere, StreamsHere, StreamsOn, MeantThere, IsOnce}
 use Rattle.flight_state.specs.Worked.{user, feed, streamed, item_of_feed, end_of_feed, opens_feed, closes_feed, streamed_events, streamed_end, streamed_graph}
 use Rattle.flight_state.proofs.Going.{flows}
-use Rattle.flight_state.proofs.LastRows.{rows_of-cons}
 use Rattle.flight_state.proofs.WorkedWait.{user_data}
-use Rattle.std.proofs.Common.{cond}
-use Rattle.std.proofs.lemmas.Bool.{ne_eqb}
 
 -- ---- the ground
 
@@ -114,46 +110,16 @@ feed_named k a i h p =
     let e = only_feed k a h in
     subst (λ (z : Ref). i ≡ stream_of z.id) e.1 (subst (λ z. local.Names streamed before opening_rows z a i) e.0 p)
 
-none_further : (n : ℕ) → rows_of (suc (suc n)) opening_rows ≡ []
-none_further n =
-    rows_of-cons (suc (suc n)) opens_feed (root_row ∷ [])
-    ∙ (ap (λ b. cond b (opens_feed.tree ∷ rows_of (suc (suc n)) (root_row ∷ [])) (rows_of (suc (suc n)) (root_row ∷ []))) (ne_eqb 1 (suc (suc n)) (λ e. omega (arith, e)))
-    ∙ (rows_of-cons (suc (suc n)) root_row [] ∙ ap (λ b. cond b (root_row.tree ∷ []) []) (ne_eqb 0 (suc (suc n)) (λ e. omega (arith, e)))))
-
--- the rows of each id
-rows_by : (n : ℕ) → ((n ≡ 1) × (rows_of n opening_rows ≡ opens_feed.tree ∷ [])) ⊎ (((n ≡ 0) × (rows_of n opening_rows ≡ root_row.tree ∷ [])) ⊎ (rows_of n opening_rows ≡ []))
-rows_by zero = inr (inl (refl, refl))
-rows_by (suc zero) = inl (refl, refl)
-rows_by (suc (suc n)) = inr (inr (none_further n))
-
-IsClose : RowKind → Type 0
-IsClose row.Close = Unit {0}
-IsClose k = ⊥
-
-opening_once : (n : ℕ) → IsOnce (rows_of n opening_rows)
-unfolding IsClose
-opening_once n = ⊎_elim (λ e. subst IsOnce (sym e.1) (λ q. subst IsClose (sym q) tt)) (λ x. ⊎_elim (λ e. subst IsOnce (sym e.1) (λ q. subst IsClose (sym q) tt)) (λ e. subst IsOnce (sym e) tt) x) (rows_by n)
+row_there : (n : ℕ) → (rows_of n opening_rows ≡ [] → ⊥) → (n ≡ 0) ⊎ local.IsFresh 1 2 n
+row_there n h = ⊎_elim (λ e. inr (omega (arith, e.0), omega (arith, e.0))) (λ x. ⊎_elim (λ e. inl e.0) (λ e. absurd (h e)) x) (two_rows opens_feed.tree root_row.tree n)
 
 -- one place stands there
 opening_place : (s : Spot) (at : Place) → place_at opening_rows s ≡ Some at → s ≡ first_place 0
-opening_place s at h = go s.id s.nth s.at h
+opening_place s at h = ⊎_elim (λ e. absurd (none-some at e.1)) (λ e. go s.at e.0 e.1) (two_places opens_feed.tree root_row.tree s at h)
   where
-    look : (n k : ℕ) → option_and_then (λ (t : PlaceTree). slice_get t.places k) (slice_get (root_row.tree ∷ []) n) ≡ Some at → ◌≡◌ {A = Spot} (record { id = 0; nth = n; at = k }) (first_place 0)
-    look zero zero h = refl
-    look zero (suc k) h = absurd (none-some at h)
-    look (suc n) k h = absurd (none-some at h)
-
-    none : (n k : ℕ) → option_and_then (λ (t : PlaceTree). slice_get t.places k) (slice_get (opens_feed.tree ∷ []) n) ≡ Some at → ⊥
-    none zero k h = none-some at h
-    none (suc n) k h = none-some at h
-
-    go : (id n k : ℕ) → place_at opening_rows (record { id = id; nth = n; at = k }) ≡ Some at → ◌≡◌ {A = Spot} (record { id = id; nth = n; at = k }) (first_place 0)
-    go zero n k h = look n k h
-    go (suc zero) n k h = absurd (none n k h)
-    go (suc (suc id)) n k h = absurd (none-some at (sym (ap (λ ts. option_and_then (λ (t : PlaceTree). slice_get t.places k) (slice_get ts n)) (none_further id)) ∙ h))
-
-row_there : (n : ℕ) → (rows_of n opening_rows ≡ [] → ⊥) → (n ≡ 0) ⊎ local.IsFresh 1 2 n
-row_there n h = ⊎_elim (λ e. inr (omega (arith, e.0), omega (arith, e.0))) (λ x. ⊎_elim (λ e. inl e.0) (λ e. absurd (h e)) x) (rows_by n)
+    go : (n : ℕ) → s ≡ record { id = 0; nth = 0; at = n } → slice_get root_row.tree.places n ≡ Some at → s ≡ first_place 0
+    go zero e q = e
+    go (suc n) e q = absurd (none-some at q)
 
 feed_here : EmitsHere streamed before (shown (tree.Stream 0)) 0 1 2 [] feed_homes opening_rows feed_births feed_meant
 feed_here =
@@ -161,7 +127,7 @@ feed_here =
       own = (refl, inl refl);
       adds = record {
         up = omega arith;
-        once = opening_once;
+        once = two_once opens_feed.tree root_row.tree (no_close (row.Open flow.Readable) (λ x. x)) (no_close row.Model (λ x. x));
         row_fresh = row_there;
         held = λ s at h. inr (shown (tree.Stream 0), inl (ap (λ z. (z, shown (tree.Stream 0))) (opening_place s at h)));
         more = feed_homes;

@@ -1,5 +1,5 @@
 -- Worked runs: small programs, step by step, with the rows that go out.
-use Rattle.std.specs.Prelude.{ℕ, Bool, true, false, List, [], ◌∷◌, None, codes}
+use Rattle.std.specs.Prelude.{ℕ, Bool, true, false, List, [], ◌∷◌, None, codes, pos}
 use Rattle.flight_value.specs.declared.graph.Atom.{Atom}
 use Rattle.flight_value.specs.declared.graph.Atom.TheVariants as atom
 use Rattle.flight_value.specs.declared.graph.Slot.TheVariants as slot
@@ -346,3 +346,41 @@ nested_graph =
           node.Element (slot.Atom (atom.Text (codes "p"))) (slot.Atom atom.Null) (slot.Node 1)
           ∷ node.Object (record { name = codes "children"; slot = slot.Atom hello } ∷ []) ∷ [];
     }
+
+-- ---- a Map: `function App() { return new Map([["a", 1]]); }`
+
+abbrev pub one_of : Atom
+one_of = atom.Whole (pos 1)
+
+abbrev pub letter : Atom
+letter = atom.Text (codes "a")
+
+abbrev pub mapped : Ground
+mapped = app_over (component (codes "App") (expr.Map (record { key = expr.Atom letter; value = expr.Atom one_of } ∷ [])) ∷ []) [] []
+
+abbrev pub the_map : Name
+the_map = record { render = []; serial = 0 }
+
+abbrev pub mapped_events : List Event
+mapped_events = event.Take 0 ∷ event.Done 0 ∷ []
+
+-- Two rows went out: the entries, `1:[["a",1]]`, and the Map, `0:"$Q1"`. The Map is at home where its token stands; the row
+-- of its entries is no home.
+abbrev pub mapped_end : State
+mapped_end =
+    record {
+      rows =
+          model 1 (place.Array (1 ∷ []) ∷ place.Array (2 ∷ 3 ∷ []) ∷ place.Atom letter ∷ place.Atom one_of ∷ [])
+          ∷ model 0 (place.Map (record { id = 1; path = [] }) ∷ []) ∷ [];
+      tasks = root_done [] ∷ [];
+      settled = [];
+      homes = (key.Made the_map, made_at (first_place 0)) ∷ [];
+      others = [];
+      counted = ([], 7) ∷ [];
+      ended = [];
+      over = false;
+    }
+
+-- a Map of one entry
+abbrev pub mapped_graph : Graph
+mapped_graph = record { root = slot.Node 0; nodes = node.Map (record { key = slot.Atom letter; value = slot.Atom one_of } ∷ []) ∷ [] }

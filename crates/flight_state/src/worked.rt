@@ -8,7 +8,7 @@ ghost use Rattle.flight_state.specs.declared.event.Event.TheVariants.{Abort};
 ghost use Rattle.flight_state.specs.Ended.{ended};
 ghost use Rattle.flight_state.specs.State.{IsQuiet, IsClosed};
 ghost use Rattle.flight_state.specs.Steps.{Run, opening};
-ghost use Rattle.flight_state.specs.Worked.{greeting, greeting_events, greeting_end, greeting_graph, late, late_events, late_waiting, late_rest, late_end, late_graph, late_so_far, late_aborted, aborted_graph, twice, twice_events, twice_end, twice_graph, streamed, streamed_events, streamed_end, streamed_graph, nested, nested_events, nested_end, nested_graph};
+ghost use Rattle.flight_state.specs.Worked.{greeting, greeting_events, greeting_end, greeting_graph, late, late_events, late_waiting, late_rest, late_end, late_graph, late_so_far, late_aborted, aborted_graph, twice, twice_events, twice_end, twice_graph, streamed, streamed_events, streamed_end, streamed_graph, nested, nested_events, nested_end, nested_graph, mapped, mapped_events, mapped_end, mapped_graph};
 
 /// `function App() { return "hello"; }`: one task and one row, `0:"hello"`.
 pub fn plain_value()
@@ -70,4 +70,13 @@ pub fn nested_element()
     ensures closed { IsClosed nested_end }
     ensures graph { DrawOneGraph (of_graph nested_graph) (meaning nested_end.rows) }
     ensures same { DrawOneGraph (plain nested nested_end.settled) (meaning nested_end.rows) }
+{}
+
+/// A Map of one entry: the entries are a row of their own, `1:[["a",1]]`, and the Map is `0:"$Q1"`.
+pub fn map_of_one()
+    ensures valid { IsValidGround mapped }
+    ensures run { Run mapped mapped_events (opening mapped) mapped_end }
+    ensures closed { IsClosed mapped_end }
+    ensures graph { DrawOneGraph (of_graph mapped_graph) (meaning mapped_end.rows) }
+    ensures same { DrawOneGraph (plain mapped mapped_end.settled) (meaning mapped_end.rows) }
 {}
