@@ -75,7 +75,7 @@ streamed_valid =
 abbrev streamed_root : Run Tree
 streamed_root = record { after = record { made = []; cost = 2 }; step = gave (tree.Stream 0) }
 
-streamed_body : (settled : List Bool) → root_body streamed settled ≡ streamed_root
+pub streamed_body : (settled : List Bool) → root_body streamed settled ≡ streamed_root
 streamed_body settled = app_body streamed settled (expr.Stream (codes "feed")) (term.stream (codes "feed")) (term-Stream (codes "feed")) refl
 
 -- ---- the stream is opened: `1:R` and `0:"$1"`
@@ -89,7 +89,7 @@ root_row = model 0 (place.Value feed_ref ∷ [])
 abbrev opening_rows : List PlacedRow
 opening_rows = opens_feed ∷ root_row ∷ []
 
-abbrev feed_homes : Homes
+abbrev pub feed_homes : Homes
 feed_homes = (key.Stream 0, feed_ref) ∷ []
 
 abbrev feed_births : Births
@@ -157,10 +157,10 @@ feed_here =
 
 -- ---- the steps
 
-abbrev root_running : State
+abbrev pub root_running : State
 root_running = record (opening streamed) { tasks = taken (false ∷ []) first_task ∷ [] }
 
-abbrev feed_open : State
+abbrev pub feed_open : State
 feed_open =
     record {
       rows = opening_rows;
@@ -189,10 +189,10 @@ item_written =
 abbrev end_running : State
 end_running = record item_written { tasks = root_done (false ∷ []) ∷ item_of_feed status.Done 1 (true ∷ []) ∷ end_of_feed (status.Running 1) 1 (true ∷ []) ∷ [] }
 
-root_taken : TakeStep (opening streamed) root_running 0
+pub root_taken : TakeStep (opening streamed) root_running 0
 root_taken = record { task = first_task; is_task = refl; was = refl; now = refl }
 
-abbrev root_finishes : DoneStep streamed root_running feed_open 0
+abbrev pub root_finishes : DoneStep streamed root_running feed_open 0
 root_finishes =
     record {
       task = taken (false ∷ []) first_task;
@@ -402,10 +402,10 @@ end_writes =
 
 -- ---- the run
 
-at_root_running : Going streamed root_running [] 1
+pub at_root_running : Going streamed root_running [] 1
 at_root_running = takes streamed (opening streamed) root_running 0 1 [] (opens streamed) root_taken
 
-at_feed_open : Going streamed feed_open feed_homes 2
+pub at_feed_open : Going streamed feed_open feed_homes 2
 at_feed_open = writes streamed streamed_valid root_running feed_open 0 1 2 [] feed_homes at_root_running root_writes
 
 at_data_came : Going streamed data_came feed_homes 2

@@ -1,5 +1,5 @@
 -- Worked runs: small programs, step by step, with the rows that go out.
-use Rattle.std.specs.Prelude.{ℕ, Bool, true, false, List, [], ◌∷◌, None, codes, pos}
+use Rattle.std.specs.Prelude.{ℕ, Bool, true, false, List, [], ◌∷◌, ◌++◌, None, codes, pos}
 use Rattle.flight_value.specs.declared.graph.Atom.{Atom}
 use Rattle.flight_value.specs.declared.graph.Atom.TheVariants as atom
 use Rattle.flight_value.specs.declared.graph.Slot.TheVariants as slot
@@ -384,3 +384,36 @@ mapped_end =
 -- a Map of one entry
 abbrev pub mapped_graph : Graph
 mapped_graph = record { root = slot.Node 0; nodes = node.Map (record { key = slot.Atom letter; value = slot.Atom one_of } ∷ []) ∷ [] }
+
+-- ---- an abort of the same stream, while its item is waited for
+
+abbrev pub feed_events : List Event
+feed_events = event.Take 0 ∷ event.Done 0 ∷ event.Take 1 ∷ event.Wait 1 0 ∷ []
+
+-- `1:R` and `0:"$1"` went out, and the task of the item waits
+abbrev pub feed_waiting : State
+feed_waiting =
+    record {
+      rows = opens_feed ∷ model 0 (place.Value (record { id = 1; path = [] }) ∷ []) ∷ [];
+      tasks = root_done (false ∷ []) ∷ item_of_feed (status.Waiting 0) 1 (false ∷ []) ∷ [];
+      settled = false ∷ [];
+      homes = (key.Stream 0, stream_of 1) ∷ [];
+      others = [];
+      counted = ([], 2) ∷ [];
+      ended = [];
+      over = false;
+    }
+
+-- The error row went out, `2:E{"digest":"stopped"}`, and the stream ends as broken, by a row of its own id,
+-- `1:E{"digest":"stopped"}`.
+abbrev pub feed_aborted : State
+feed_aborted =
+    record feed_waiting {
+      rows = feed_waiting.rows ++ failure 2 (codes "stopped") ∷ failure 1 (codes "stopped") ∷ [];
+      tasks = root_done (false ∷ []) ∷ item_of_feed status.Done 1 (false ∷ []) ∷ [];
+      ended = (1, 2) ∷ [];
+    }
+
+-- a stream that broke before its first item
+abbrev pub broken_graph : Graph
+broken_graph = record { root = slot.Node 0; nodes = node.Stream flow.Readable [] (end.Broken (codes "stopped")) ∷ [] }

@@ -8,7 +8,7 @@ ghost use Rattle.flight_state.specs.declared.event.Event.TheVariants.{Abort};
 ghost use Rattle.flight_state.specs.Ended.{ended};
 ghost use Rattle.flight_state.specs.State.{IsQuiet, IsClosed};
 ghost use Rattle.flight_state.specs.Steps.{Run, opening};
-ghost use Rattle.flight_state.specs.Worked.{greeting, greeting_events, greeting_end, greeting_graph, late, late_events, late_waiting, late_rest, late_end, late_graph, late_so_far, late_aborted, aborted_graph, twice, twice_events, twice_end, twice_graph, streamed, streamed_events, streamed_end, streamed_graph, nested, nested_events, nested_end, nested_graph, mapped, mapped_events, mapped_end, mapped_graph};
+ghost use Rattle.flight_state.specs.Worked.{greeting, greeting_events, greeting_end, greeting_graph, late, late_events, late_waiting, late_rest, late_end, late_graph, late_so_far, late_aborted, aborted_graph, twice, twice_events, twice_end, twice_graph, streamed, streamed_events, streamed_end, streamed_graph, nested, nested_events, nested_end, nested_graph, mapped, mapped_events, mapped_end, mapped_graph, feed_events, feed_waiting, feed_aborted, broken_graph};
 
 /// `function App() { return "hello"; }`: one task and one row, `0:"hello"`.
 pub fn plain_value()
@@ -79,4 +79,15 @@ pub fn map_of_one()
     ensures closed { IsClosed mapped_end }
     ensures graph { DrawOneGraph (of_graph mapped_graph) (meaning mapped_end.rows) }
     ensures same { DrawOneGraph (plain mapped mapped_end.settled) (meaning mapped_end.rows) }
+{}
+
+/// The same stream, aborted while its item is waited for: an error row, `2:E{"digest":"stopped"}`, and the end of the
+/// stream, `1:E{"digest":"stopped"}`. The rows are good, and the stream broke.
+pub fn aborted_stream()
+    ensures waits { Run streamed feed_events (opening streamed) feed_waiting }
+    ensures run { Run streamed (feed_events ++ Abort ∷ []) (opening streamed) feed_aborted }
+    ensures closed { IsClosed feed_aborted }
+    ensures good { IsGood feed_aborted.rows }
+    ensures graph { DrawOneGraph (of_graph broken_graph) (meaning feed_aborted.rows) }
+    ensures ended { DrawOneGraph (ended (codes "stopped") (plain streamed feed_waiting.settled)) (meaning feed_aborted.rows) }
 {}
