@@ -113,7 +113,7 @@ row_value id places = ap (λ ts. go_to id ts []) (row_own id places)
 abbrev pub two : PlaceTree → PlaceTree → List PlacedRow
 two one root = record { id = 1; tree = one } ∷ record { id = 0; tree = root } ∷ []
 
-none_further : (one root : PlaceTree) (n : ℕ) → rows_of (suc (suc n)) (two one root) ≡ []
+pub none_further : (one root : PlaceTree) (n : ℕ) → rows_of (suc (suc n)) (two one root) ≡ []
 none_further one root n =
     rows_of-cons (suc (suc n)) (record { id = 1; tree = one }) (record { id = 0; tree = root } ∷ [])
     ∙ (ap (λ b. cond b (one ∷ rows_of (suc (suc n)) (record { id = 0; tree = root } ∷ [])) (rows_of (suc (suc n)) (record { id = 0; tree = root } ∷ []))) (ne_eqb 1 (suc (suc n)) (λ e. omega (arith, e)))

@@ -1,5 +1,5 @@
 -- Worked runs: small programs, step by step, with the rows that go out.
-use Rattle.std.specs.Prelude.{ℕ, Bool, true, false, List, [], ◌∷◌, ◌++◌, None, codes, pos}
+use Rattle.std.specs.Prelude.{ℕ, Bool, true, false, List, [], ◌∷◌, ◌++◌, Some, None, codes, pos}
 use Rattle.flight_value.specs.declared.graph.Atom.{Atom}
 use Rattle.flight_value.specs.declared.graph.Atom.TheVariants as atom
 use Rattle.flight_value.specs.declared.graph.Slot.TheVariants as slot
@@ -28,7 +28,7 @@ use Rattle.flight_meaning.specs.declared.place.Place.{Place}
 use Rattle.flight_meaning.specs.declared.place.Place.TheVariants as place
 use Rattle.flight_meaning.specs.declared.place.PlacedRow.{PlacedRow}
 use Rattle.flight_meaning.specs.Linked.{first_place, beside}
-use Rattle.flight_meaning.specs.Meaning.{made_at, stream_of}
+use Rattle.flight_meaning.specs.Meaning.{made_at, promise_of, stream_of, action_of}
 use Rattle.flight_state.specs.declared.status.Status.{Status}
 use Rattle.flight_state.specs.declared.status.Status.TheVariants as status
 use Rattle.flight_state.specs.declared.event.Event.{Event}
@@ -417,3 +417,51 @@ feed_aborted =
 -- a stream that broke before its first item
 abbrev pub broken_graph : Graph
 broken_graph = record { root = slot.Node 0; nodes = node.Stream flow.Readable [] (end.Broken (codes "stopped")) ∷ [] }
+
+-- ---- a server reference with a bound argument: `function App() { return save.bind(null, 1); }`, where `save` is a server
+-- function
+
+abbrev pub save : Declared
+save = declared.Action (codes "save") (codes "x" ∷ []) (expr.Atom atom.Null)
+
+abbrev pub bound : Ground
+bound = app_over (component (codes "App") (expr.Action 1 (Some (expr.Atom one_of ∷ []))) ∷ save ∷ []) [] []
+
+-- what the body of `App` makes, each of the one before: the array of the arguments, its promise, the server reference
+abbrev pub bound_array : Name
+bound_array = record { render = []; serial = 0 }
+
+abbrev pub bound_promise : Name
+bound_promise = record { render = []; serial = 1 }
+
+abbrev pub bound_action : Name
+bound_action = record { render = []; serial = 2 }
+
+abbrev pub bound_events : List Event
+bound_events = event.Take 0 ∷ event.Done 0 ∷ []
+
+-- Three rows went out: the arguments, `2:[1]`, the server reference with their promise, `1:{"bound":"$@2","id":"save"}`,
+-- and `0:"$F1"`. The promise is that of row 2, and no task is born for it.
+abbrev pub bound_end : State
+bound_end =
+    record {
+      rows =
+          model 2 (place.Array (1 ∷ []) ∷ place.Atom one_of ∷ [])
+          ∷ model 1 (place.Object (record { name = codes "bound"; place = 1 } ∷ record { name = codes "id"; place = 2 } ∷ []) ∷ place.Promise 2 ∷ place.Atom (atom.Text (codes "save")) ∷ [])
+          ∷ model 0 (place.Action 1 ∷ []) ∷ [];
+      tasks = root_done [] ∷ [];
+      settled = [];
+      homes = (key.Made bound_array, made_at (first_place 2)) ∷ (key.Made bound_promise, promise_of 2) ∷ (key.Made bound_action, action_of 1) ∷ [];
+      others = [];
+      counted = ([], 6) ∷ [];
+      ended = [];
+      over = false;
+    }
+
+-- a server reference, the promise of its arguments, and their array
+abbrev pub bound_graph : Graph
+bound_graph =
+    record {
+      root = slot.Node 0;
+      nodes = node.Action (codes "save") (slot.Node 1) ∷ node.Promise (slot.Node 2) ∷ node.Array (slot.Atom one_of ∷ []) ∷ [];
+    }

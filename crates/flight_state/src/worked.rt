@@ -8,7 +8,7 @@ ghost use Rattle.flight_state.specs.declared.event.Event.TheVariants.{Abort};
 ghost use Rattle.flight_state.specs.Ended.{ended};
 ghost use Rattle.flight_state.specs.State.{IsQuiet, IsClosed};
 ghost use Rattle.flight_state.specs.Steps.{Run, opening};
-ghost use Rattle.flight_state.specs.Worked.{greeting, greeting_events, greeting_end, greeting_graph, late, late_events, late_waiting, late_rest, late_end, late_graph, late_so_far, late_aborted, aborted_graph, twice, twice_events, twice_end, twice_graph, streamed, streamed_events, streamed_end, streamed_graph, nested, nested_events, nested_end, nested_graph, mapped, mapped_events, mapped_end, mapped_graph, feed_events, feed_waiting, feed_aborted, broken_graph};
+ghost use Rattle.flight_state.specs.Worked.{greeting, greeting_events, greeting_end, greeting_graph, late, late_events, late_waiting, late_rest, late_end, late_graph, late_so_far, late_aborted, aborted_graph, twice, twice_events, twice_end, twice_graph, streamed, streamed_events, streamed_end, streamed_graph, nested, nested_events, nested_end, nested_graph, mapped, mapped_events, mapped_end, mapped_graph, feed_events, feed_waiting, feed_aborted, broken_graph, bound, bound_events, bound_end, bound_graph};
 
 /// `function App() { return "hello"; }`: one task and one row, `0:"hello"`.
 pub fn plain_value()
@@ -90,4 +90,14 @@ pub fn aborted_stream()
     ensures good { IsGood feed_aborted.rows }
     ensures graph { DrawOneGraph (of_graph broken_graph) (meaning feed_aborted.rows) }
     ensures ended { DrawOneGraph (ended (codes "stopped") (plain streamed feed_waiting.settled)) (meaning feed_aborted.rows) }
+{}
+
+/// A server function with a bound argument: `2:[1]`, `1:{"bound":"$@2","id":"save"}` and `0:"$F1"`. The promise of the
+/// arguments is that of their row, and has no task.
+pub fn bound_reference()
+    ensures valid { IsValidGround bound }
+    ensures run { Run bound bound_events (opening bound) bound_end }
+    ensures closed { IsClosed bound_end }
+    ensures graph { DrawOneGraph (of_graph bound_graph) (meaning bound_end.rows) }
+    ensures same { DrawOneGraph (plain bound bound_end.settled) (meaning bound_end.rows) }
 {}
