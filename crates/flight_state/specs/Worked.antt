@@ -465,3 +465,52 @@ bound_graph =
       root = slot.Node 0;
       nodes = node.Action (codes "save") (slot.Node 1) ∷ node.Promise (slot.Node 2) ∷ node.Array (slot.Atom one_of ∷ []) ∷ [];
     }
+
+-- ---- a Suspense boundary: `function App() { return <Suspense>hello</Suspense>; }`
+
+abbrev pub suspense : List ℕ
+suspense = codes "react.suspense"
+
+abbrev pub boundary : Ground
+boundary = app_over (component (codes "App") (expr.Element tag.Suspense [] (expr.Atom hello ∷ [])) ∷ []) [] []
+
+-- what the body of `App` makes: the props of the boundary, and the boundary
+abbrev pub inside : Name
+inside = record { render = []; serial = 0 }
+
+abbrev pub outside : Name
+outside = record { render = []; serial = 1 }
+
+abbrev pub boundary_events : List Event
+boundary_events = event.Take 0 ∷ event.Done 0 ∷ []
+
+-- Two rows went out: the symbol, `1:"$Sreact.suspense"`, and the element with a reference to it for its tag,
+-- `0:["$","$1",null,{"children":"hello"}]`. A symbol is no node, so its row is kept apart from the homes.
+abbrev pub boundary_end : State
+boundary_end =
+    record {
+      rows =
+          model 1 (place.Atom (atom.Symbol suspense) ∷ [])
+          ∷ model 0 (
+          place.Element 2 3 4 ∷ place.Atom (atom.Text (codes "$"))
+          ∷ place.Value (record { id = 1; path = [] }) ∷ place.Atom atom.Null
+          ∷ place.Object (record { name = codes "children"; place = 5 } ∷ []) ∷ place.Atom hello ∷ []
+          ) ∷ [];
+      tasks = root_done [] ∷ [];
+      settled = [];
+      homes = (key.Made outside, made_at (first_place 0)) ∷ (key.Made inside, made_at (beside (first_place 0) 4)) ∷ [];
+      others = (key.Symbol suspense, 1) ∷ [];
+      counted = ([], 20) ∷ [];
+      ended = [];
+      over = false;
+    }
+
+-- an element whose tag is the symbol
+abbrev pub boundary_graph : Graph
+boundary_graph =
+    record {
+      root = slot.Node 0;
+      nodes =
+          node.Element (slot.Atom (atom.Symbol suspense)) (slot.Atom atom.Null) (slot.Node 1)
+          ∷ node.Object (record { name = codes "children"; slot = slot.Atom hello } ∷ []) ∷ [];
+    }

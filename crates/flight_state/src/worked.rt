@@ -8,7 +8,7 @@ ghost use Rattle.flight_state.specs.declared.event.Event.TheVariants.{Abort};
 ghost use Rattle.flight_state.specs.Ended.{ended};
 ghost use Rattle.flight_state.specs.State.{IsQuiet, IsClosed};
 ghost use Rattle.flight_state.specs.Steps.{Run, opening};
-ghost use Rattle.flight_state.specs.Worked.{greeting, greeting_events, greeting_end, greeting_graph, late, late_events, late_waiting, late_rest, late_end, late_graph, late_so_far, late_aborted, aborted_graph, twice, twice_events, twice_end, twice_graph, streamed, streamed_events, streamed_end, streamed_graph, nested, nested_events, nested_end, nested_graph, mapped, mapped_events, mapped_end, mapped_graph, feed_events, feed_waiting, feed_aborted, broken_graph, bound, bound_events, bound_end, bound_graph};
+ghost use Rattle.flight_state.specs.Worked.{greeting, greeting_events, greeting_end, greeting_graph, late, late_events, late_waiting, late_rest, late_end, late_graph, late_so_far, late_aborted, aborted_graph, twice, twice_events, twice_end, twice_graph, streamed, streamed_events, streamed_end, streamed_graph, nested, nested_events, nested_end, nested_graph, mapped, mapped_events, mapped_end, mapped_graph, feed_events, feed_waiting, feed_aborted, broken_graph, bound, bound_events, bound_end, bound_graph, boundary, boundary_events, boundary_end, boundary_graph};
 
 /// `function App() { return "hello"; }`: one task and one row, `0:"hello"`.
 pub fn plain_value()
@@ -100,4 +100,14 @@ pub fn bound_reference()
     ensures closed { IsClosed bound_end }
     ensures graph { DrawOneGraph (of_graph bound_graph) (meaning bound_end.rows) }
     ensures same { DrawOneGraph (plain bound bound_end.settled) (meaning bound_end.rows) }
+{}
+
+/// A Suspense boundary: its symbol is a row of its own, `1:"$Sreact.suspense"`, to which the element refers,
+/// `0:["$","$1",null,{"children":"hello"}]`.
+pub fn suspense_boundary()
+    ensures valid { IsValidGround boundary }
+    ensures run { Run boundary boundary_events (opening boundary) boundary_end }
+    ensures closed { IsClosed boundary_end }
+    ensures graph { DrawOneGraph (of_graph boundary_graph) (meaning boundary_end.rows) }
+    ensures same { DrawOneGraph (plain boundary boundary_end.settled) (meaning boundary_end.rows) }
 {}
