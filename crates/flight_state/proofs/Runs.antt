@@ -105,7 +105,7 @@ run_good g es st w closed = closed_good g st (run_fits g es st w) closed
 
 -- ---- where every task is done, more settled sources change nothing
 
-closed_quiet : (st : State) → IsClosed st → IsQuiet st
+pub closed_quiet : (st : State) → IsClosed st → IsQuiet st
 closed_quiet st closed t i = subst IsAtRest (sym (closed t i)) tt
 
 pub closed_same : (g : Ground) (st : State) (s : List Bool) → Fits g st → IsClosed st → st.ended ≡ [] → Grows st.settled s → DrawOneGraph (plain g s) (meaning st.rows)
