@@ -1,0 +1,6 @@
+pub mod Rows
+pub mod Shapes
+pub mod Sits
+pub mod Homes
+pub mod Once
+pub mod Emitted
