@@ -4,3 +4,5 @@ pub mod Sits
 pub mod Homes
 pub mod Once
 pub mod Emitted
+pub mod Growing
+pub mod Leaves

@@ -25,7 +25,7 @@ use Rattle.flight_state.specs.Emits.{Meant}
 use Rattle.flight_state.specs.Local.{Seen, Births, StepsTo, EndsHere}
 use Rattle.flight_state.proofs.Lists.{in_front, in_behind, in_either, in_map, map_in}
 use Rattle.flight_emit.specs.Sheet.{Note, Form, Drawn, leaf, token, composite, Parts, no_parts, part_and, tree_of, head, value_in, value_at, numbered, meant_from, meant_in, below, root, home_of, homes_in, homes_of, Sheet, filled, opening, rows_on, homes_on, spot, spotted, meant_on, meant_of}
-use Rattle.flight_emit.specs.Good.{IsGood, AreGood}
+use Rattle.flight_emit.specs.Good.{HasEntries, IsGood, AreGood}
 use Rattle.flight_emit.specs.Whole.{Use, OnPaper}
 use Rattle.flight_emit.proofs.Shapes.{PartsStand, PartsLead, Composite, composite_there}
 
@@ -70,7 +70,7 @@ at_path id path = record { id = id; path = path }
 pub record Sits (p : Paper) (x : Filled p) (d : Drawn) (n : ℕ) (path : Path) : Type 0 where
   pub stands : Stands (places x) n (tree_of d)
   pub steps : StepsTo (places x) 0 path n
-  pub good : IsGood p.g p.seen (homes p) p.more p.sheets (at_path x.id path) d
+  pub good : IsGood p.g p.seen (homes p) p.more p.sheets (HasEntries p.g p.seen p.sheets) (at_path x.id path) d
   pub meant : (m : ℕ) (v : Value) → In (m, v) (meant_from n d) → In (spot x.id m, v) (meant p)
 
 abbrev pub PartsSit : (p : Paper) → Filled p → ℕ → Path → Parts → Type 0
@@ -110,7 +110,7 @@ steps_snoc all [] at n m above name e is_place goes = (above, m, subst (λ z. sl
 steps_snoc all (first ∷ path) at n m above name s is_place goes = (s.0, s.1, s.2, s.3, steps_snoc all path s.1 n m above name s.4 is_place goes)
 
 parts_sit : (p : Paper) (x : Filled p) (n : ℕ) (path : Path) (above : Place) → slice_get (places x) n ≡ Some above → StepsTo (places x) 0 path n
-    → (ps : Parts) (k : ℕ) → PartsStand (places x) k ps → PartsLead (step above) k ps → AreGood p.g p.seen (homes p) p.more p.sheets (at_path x.id path) ps
+    → (ps : Parts) (k : ℕ) → PartsStand (places x) k ps → PartsLead (step above) k ps → AreGood p.g p.seen (homes p) p.more p.sheets (HasEntries p.g p.seen p.sheets) (at_path x.id path) ps
     → ((m : ℕ) (v : Value) → In (m, v) (meant_in k ps) → In (spot x.id m, v) (meant p)) → PartsSit p x k path ps
 parts_sit p x n path above is_place steps no_parts k stand lead good all = tt
 parts_sit p x n path above is_place steps (part_and name d rest) k stand lead good all = (

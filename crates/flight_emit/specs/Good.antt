@@ -86,16 +86,20 @@ abbrev pub IsMeant : Ground → Seen → Homes → List Sheet → Place → Opti
 IsMeant g seen homes sheets at None = IsPlain at
 IsMeant g seen homes sheets at (Some v) = (w : Value) × Gives g seen v w × IsLeaf g seen homes sheets at w
 
+-- what is known of the row of a Map's or a Set's entries, by its id
+abbrev pub Entries : Type 1
+Entries = Key → Token → ℕ → Type 0
+
 abbrev mutual
   -- what stands under a reference spells what is meant there
-  pub IsGood : Ground → Seen → Homes → Homes → List Sheet → Ref → Drawn → Type 0
-  IsGood g seen homes more sheets r (leaf meant at) = IsMeant g seen homes sheets at meant
-  IsGood g seen homes more sheets r (token note kind id) = IsHomeOf g seen more r note × HasEntries g seen sheets note.key kind id
-  IsGood g seen homes more sheets r (composite noted form parts) = IsHome g seen more r form parts noted × HasNames form (names_in parts) × AreGood g seen homes more sheets r parts
+  pub IsGood : Ground → Seen → Homes → Homes → List Sheet → Entries → Ref → Drawn → Type 0
+  IsGood g seen homes more sheets E r (leaf meant at) = IsMeant g seen homes sheets at meant
+  IsGood g seen homes more sheets E r (token note kind id) = IsHomeOf g seen more r note × E note.key kind id
+  IsGood g seen homes more sheets E r (composite noted form parts) = IsHome g seen more r form parts noted × HasNames form (names_in parts) × AreGood g seen homes more sheets E r parts
 
-  pub AreGood : Ground → Seen → Homes → Homes → List Sheet → Ref → Parts → Type 0
-  AreGood g seen homes more sheets r no_parts = Unit {0}
-  AreGood g seen homes more sheets r (part_and name drawn rest) = IsGood g seen homes more sheets (below r name) drawn × AreGood g seen homes more sheets r rest
+  pub AreGood : Ground → Seen → Homes → Homes → List Sheet → Entries → Ref → Parts → Type 0
+  AreGood g seen homes more sheets E r no_parts = Unit {0}
+  AreGood g seen homes more sheets E r (part_and name drawn rest) = IsGood g seen homes more sheets E (below r name) drawn × AreGood g seen homes more sheets E r rest
 
 -- the kind of a row that opens and closes no stream
 abbrev pub IsPlainKind : RowKind → Type 0
@@ -104,5 +108,5 @@ IsPlainKind row.Close = ⊥
 IsPlainKind kind = Unit {0}
 
 abbrev pub IsGoodSheet : Ground → Seen → Homes → Homes → List Sheet → Sheet → Type 0
-IsGoodSheet g seen homes more sheets (filled id kind drawn) = IsPlainKind kind × IsGood g seen homes more sheets (root id) drawn
+IsGoodSheet g seen homes more sheets (filled id kind drawn) = IsPlainKind kind × IsGood g seen homes more sheets (HasEntries g seen sheets) (root id) drawn
 IsGoodSheet g seen homes more sheets (opening id flow) = Unit {0}

@@ -1,3 +1,6 @@
 pub mod Sheet
 pub mod Good
 pub mod Whole
+pub mod Log
+pub mod Wrote
+pub mod Seen

@@ -8,5 +8,9 @@
 #![tactic(auto)]
 
 mod law;
+mod leaf;
+mod scene;
+mod take;
+mod work;
 
 pub use law::sheets_emit;

@@ -1,0 +1,43 @@
+-- What writing one value comes to.
+use Rattle.std.specs.Prelude.{ℕ, ◌≡◌, ◌≤◌, List, [], ◌∷◌, ◌++◌, map, Option, Some, None}
+use Rattle.flight_value.specs.Listed.{In}
+use Rattle.flight_value.specs.declared.key.Key.{Key}
+use Rattle.flight_text.specs.declared.mark.Ref.{Ref}
+use Rattle.flight_render.specs.declared.root.Ground.{Ground}
+use Rattle.flight_render.specs.Jobs.{Value}
+use Rattle.flight_meaning.specs.declared.place.Place.{Place}
+use Rattle.flight_meaning.specs.Meaning.{Token, token_label}
+use Rattle.flight_payload.specs.Tree.{depth}
+use Rattle.flight_payload.specs.Written.{token_of, tokens_of, IsWritablePlace, IsWritable}
+use Rattle.flight_state.specs.Local.{Seen, shape_seen}
+use Rattle.flight_emit.specs.declared.work.Due.{Due}
+use Rattle.flight_emit.specs.declared.work.Due.TheVariants as due
+use Rattle.flight_emit.specs.Sheet.{Drawn, tree_of, value_at, homes_in}
+use Rattle.flight_emit.specs.Good.{Gives, IsLeaf, Entries, IsGood}
+use Rattle.flight_emit.specs.Log.{Act, homes_by, places_by, sheets_by, dues_by, Stage, Grows}
+
+-- a value is written as an atom or a reference
+pub record WroteLeaf (g : Ground) (seen : Seen) (v : Value) (old new : Stage) : Type 0 where
+  pub acts : List Act
+  pub place : Place
+  pub grows : Grows g seen v acts old new
+  pub tokens : new.out ≡ old.out ++ token_of place ∷ []
+  pub leaf : (w : Value) × Gives g seen v w × IsLeaf g seen new.homes (sheets_by old.next acts) place w
+  pub writable : IsWritablePlace place
+  pub no_places : places_by acts ≡ []
+
+-- the row of the entries is still to be written
+abbrev pub AreDue : Ground → Seen → List Due → Entries
+AreDue g seen dues k kind id = In (due.Entries id k) dues × ((slots : List Value) × (shape_seen g seen k ≡ Some (record { label = token_label kind; slots = slots })))
+
+-- a value is written under a reference, with no more than so many arrays and objects around its innermost value
+pub record Wrote (g : Ground) (seen : Seen) (r : Ref) (v : Value) (levels : ℕ) (old new : Stage) : Type 0 where
+  pub acts : List Act
+  pub drawn : Drawn
+  pub grows : Grows g seen v acts old new
+  pub tokens : new.out ≡ old.out ++ tokens_of (tree_of drawn)
+  pub is_value : value_at drawn ≡ Some v
+  pub good : IsGood g seen new.homes (homes_by old.next acts) (sheets_by old.next acts) (AreDue g seen (dues_by old.next acts)) r drawn
+  pub placed : (k : Key) (a : Ref) → In (k, a) (places_by acts) → In (k, a) (homes_in r drawn)
+  pub writable : IsWritable (tree_of drawn)
+  pub shallow : depth (tree_of drawn) ≤ levels
