@@ -6,3 +6,5 @@ pub mod Once
 pub mod Emitted
 pub mod Growing
 pub mod Leaves
+pub mod PartsOn
+pub mod Composites

@@ -1,19 +1,21 @@
 -- What writing one value comes to.
 use Rattle.std.specs.Prelude.{ℕ, ◌≡◌, ◌≤◌, List, [], ◌∷◌, ◌++◌, map, Option, Some, None}
+use Rattle.json.specs.Token.{Token}
+use Rattle.json.specs.Token as token
 use Rattle.flight_value.specs.Listed.{In}
 use Rattle.flight_value.specs.declared.key.Key.{Key}
 use Rattle.flight_text.specs.declared.mark.Ref.{Ref}
 use Rattle.flight_render.specs.declared.root.Ground.{Ground}
 use Rattle.flight_render.specs.Jobs.{Value}
 use Rattle.flight_meaning.specs.declared.place.Place.{Place}
-use Rattle.flight_meaning.specs.Meaning.{Token, token_label}
+use Rattle.flight_meaning.specs.Meaning.{token_label}
 use Rattle.flight_payload.specs.Tree.{depth}
-use Rattle.flight_payload.specs.Written.{token_of, tokens_of, IsWritablePlace, IsWritable}
+use Rattle.flight_payload.specs.Written.{token_of, mark_token, tokens_of, IsWritablePlace, IsWritable}
 use Rattle.flight_state.specs.Local.{Seen, shape_seen}
 use Rattle.flight_emit.specs.declared.work.Due.{Due}
 use Rattle.flight_emit.specs.declared.work.Due.TheVariants as due
-use Rattle.flight_emit.specs.Sheet.{Drawn, tree_of, value_at, homes_in}
-use Rattle.flight_emit.specs.Good.{Gives, IsLeaf, Entries, IsGood}
+use Rattle.flight_emit.specs.Sheet.{Form, as_array, as_object, as_element, Drawn, Parts, no_parts, part_and, names_in, values_in, tree_of, value_at, homes_in, homes_of}
+use Rattle.flight_emit.specs.Good.{Gives, IsLeaf, Entries, IsGood, AreGood}
 use Rattle.flight_emit.specs.Log.{Act, homes_by, places_by, sheets_by, dues_by, Stage, Grows}
 
 -- a value is written as an atom or a reference
@@ -41,3 +43,44 @@ pub record Wrote (g : Ground) (seen : Seen) (r : Ref) (v : Value) (levels : ℕ)
   pub placed : (k : Key) (a : Ref) → In (k, a) (places_by acts) → In (k, a) (homes_in r drawn)
   pub writable : IsWritable (tree_of drawn)
   pub shallow : depth (tree_of drawn) ≤ levels
+
+-- ---- the parts of a composite
+
+abbrev pub part_tokens : Form → List ℕ → Drawn → List Token
+part_tokens as_object name drawn = token.key name ∷ tokens_of (tree_of drawn)
+part_tokens form name drawn = tokens_of (tree_of drawn)
+
+abbrev pub tokens_in : Form → Parts → List Token
+tokens_in form no_parts = []
+tokens_in form (part_and name drawn rest) = part_tokens form name drawn ++ tokens_in form rest
+
+abbrev pub AllWritable : Parts → Type 0
+AllWritable no_parts = Unit {0}
+AllWritable (part_and name drawn rest) = IsWritable (tree_of drawn) × AllWritable rest
+
+abbrev pub AllWithin : ℕ → Parts → Type 0
+AllWithin levels no_parts = Unit {0}
+AllWithin levels (part_and name drawn rest) = (depth (tree_of drawn) ≤ levels) × AllWithin levels rest
+
+-- values are written one after another below a reference, each under its name; they are met from a value
+pub record WroteParts (g : Ground) (seen : Seen) (v : Value) (form : Form) (r : Ref) (names : List (List ℕ)) (values : List Value) (levels : ℕ) (old new : Stage) : Type 0 where
+  pub acts : List Act
+  pub parts : Parts
+  pub grows : Grows g seen v acts old new
+  pub tokens : new.out ≡ old.out ++ tokens_in form parts
+  pub are_names : names_in parts ≡ names
+  pub are_values : values_in parts ≡ map Some values
+  pub good : AreGood g seen new.homes (homes_by old.next acts) (sheets_by old.next acts) (AreDue g seen (dues_by old.next acts)) r parts
+  pub placed : (k : Key) (a : Ref) → In (k, a) (places_by acts) → In (k, a) (homes_of r parts)
+  pub writable : AllWritable parts
+  pub shallow : AllWithin levels parts
+
+-- the tokens around a composite's parts
+abbrev pub opens : Form → List Token
+opens as_array = token.begin_array ∷ []
+opens as_object = token.begin_object ∷ []
+opens as_element = token.begin_array ∷ mark_token ∷ []
+
+abbrev pub closes : Form → List Token
+closes as_object = token.end_object ∷ []
+closes form = token.end_array ∷ []
