@@ -8,6 +8,7 @@ use Rattle.flight_value.specs.Listed.{In}
 use Rattle.flight_value.specs.declared.graph.Atom.{Atom}
 use Rattle.flight_value.specs.declared.key.Key.{Key}
 use Rattle.flight_text.specs.declared.mark.Ref.{Ref}
+use Rattle.flight_text.specs.Mark.{IsPlace}
 use Rattle.flight_home.specs.Homes.{Homes, IsNew}
 use Rattle.flight_render.specs.declared.root.Ground.{Ground}
 use Rattle.flight_render.specs.Jobs.{Value}
@@ -127,16 +128,16 @@ compose as_element ps levels readable all within =
 -- ---- a composite at its home
 
 pub composite_wrote : (g : Ground) (seen : Seen) (v : Value) (k : Key) (r : Ref) (form : Form) (names : List (List ℕ)) (values : List Value) (levels : ℕ) (s a b c u : Stage)
-    → a ≡ record s { homes = s.homes ++ (k, r) ∷ [] } → IsNew k s.homes → b ≡ record a { out = a.out ++ opens form }
+    → IsPlace r → a ≡ record s { homes = s.homes ++ (k, r) ∷ [] } → IsNew k s.homes → b ≡ record a { out = a.out ++ opens form }
     → (w : WroteParts g seen v form r names values levels b c) → u ≡ record c { out = c.out ++ closes form }
     → IsNode g seen v k → shape_seen g seen k ≡ Some (record { label = label_of form names; slots = values }) → HasNames form names → IsReadableForm form w.parts
     → Wrote g seen r v (suc levels) s u
-composite_wrote g seen v k r form names values levels s a b c u homed new begun w ended node shape has_names readable =
+composite_wrote g seen v k r form names values levels s a b c u is_place homed new begun w ended node shape has_names readable =
     let ps = w.parts in
     let made = compose form ps levels readable w.writable w.shallow in
     let from = ap (λ z. z.homes) begun ∙ ap (λ z. z.homes) homed in
     let id = ap (λ z. z.next) begun ∙ ap (λ z. z.next) homed in
-    let first = grows_out g seen v (put k r ∷ []) s a b (grows_put g seen v k r s a homed new) (begun ∙ ap (λ z. record a { out = z }) (sym (ap (λ z. z.out) begun))) in
+    let first = grows_out g seen v (put k r ∷ []) s a b (grows_put g seen v k r s a is_place homed new) (begun ∙ ap (λ z. record a { out = z }) (sym (ap (λ z. z.out) begun))) in
     let all = grows_more g seen v (put k r ∷ []) w.acts s b c first w.grows in
     let grown = grows_out g seen v (put k r ∷ w.acts) s c u all (ended ∙ ap (λ z. record c { out = z }) (sym (ap (λ z. z.out) ended))) in
     let same_homes = ap (λ z. z.homes) ended in

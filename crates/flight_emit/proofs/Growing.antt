@@ -1,11 +1,14 @@
 -- What acts add, one after another.
-use Rattle.std.proofs.Common.{◌≡◌, ◌≢◌, ℕ, zero, suc, ◌+◌, ◌⊎◌, inl, inr, ⊎_elim, List, [], ◌∷◌, ◌++◌, map, Option, Some, None, refl, sym, ap, ap₂, ◌∙◌, subst, arith, append_assoc, append-nil}
+use Rattle.std.proofs.Common.{◌≡◌, ◌≢◌, ℕ, zero, suc, ◌+◌, ◌^◌, ◌<◌, ◌≤◌, ◌⊎◌, inl, inr, ⊎_elim, List, [], ◌∷◌, ◌++◌, map, Option, Some, None, refl, sym, ap, ap₂, ◌∙◌, subst, arith, append_assoc, append-nil}
 use Rattle.std.specs.List.{AllZip}
+use Rattle.std.proofs.lemmas.List.Elements.{All-nil}
+use Rattle.flight_text.specs.Reference.{IsName}
 use Rattle.flight_value.specs.Listed.{In}
 use Rattle.flight_value.specs.Store as store
 use Rattle.flight_value.specs.declared.key.Key.{Key}
 use Rattle.flight_value.specs.declared.key.Key.TheVariants as key
 use Rattle.flight_text.specs.declared.mark.Ref.{Ref}
+use Rattle.flight_text.specs.Mark.{IsPlace}
 use Rattle.flight_row.specs.declared.row.Row.{Row}
 use Rattle.flight_home.specs.Homes.{Homes, IsNew}
 use Rattle.flight_render.specs.declared.root.Ground.{Ground}
@@ -16,10 +19,10 @@ use Rattle.flight_state.specs.State.{next_what}
 use Rattle.flight_state.specs.Local.{Seen, Met, at_first, in_slot, in_place, Births, MetBy}
 use Rattle.flight_state.proofs.Lists.{zip-append, in_front, in_behind, in_either}
 use Rattle.flight_emit.specs.declared.work.Due.{Due}
-use Rattle.flight_emit.specs.Sheet.{Sheet}
+use Rattle.flight_emit.specs.Sheet.{Sheet, root}
 use Rattle.flight_emit.specs.Good as good
 use Rattle.flight_emit.specs.Good.{IsLeaf}
-use Rattle.flight_emit.specs.Log.{Taken, atom_row, value_row, entries_row, task, stream_row, reference_row, Act, put, take, home_for, sheet_for, birth_for, due_for, takes, homes_by, places_by, sheets_by, births_by, dues_by, value_of_key, IsMetNode, FitsTaken, FitActs, AreNew, HasSheet, Stage, Grows, Took}
+use Rattle.flight_emit.specs.Log.{Taken, atom_row, value_row, entries_row, task, stream_row, reference_row, Act, put, take, home_for, sheet_for, birth_for, due_for, takes, homes_by, places_by, sheets_by, births_by, dues_by, value_of_key, IsMetNode, FitsTaken, FitActs, AreNew, HasSheet, ArePlaces, Stage, Grows, Took}
 
 -- ---- lists of acts
 
@@ -93,7 +96,7 @@ taken_more g seen v homes more (reference_row k name w at) keep h = let z = h.2 
 
 pub acts_more : (g : Ground) (seen : Seen) (v : Value) (homes more : Homes) (acts : List Act) → Keeps homes more → FitActs g seen v homes acts → FitActs g seen v more acts
 acts_more g seen v homes more [] keep h = tt
-acts_more g seen v homes more (put k r ∷ acts) keep h = (tt, acts_more g seen v homes more acts keep h.1)
+acts_more g seen v homes more (put k r ∷ acts) keep h = (h.0, acts_more g seen v homes more acts keep h.1)
 acts_more g seen v homes more (take t ∷ acts) keep h = (taken_more g seen v homes more t keep h.0, acts_more g seen v homes more acts keep h.1)
 
 pub acts-append : (g : Ground) (seen : Seen) (v : Value) (homes : Homes) (xs ys : List Act) → FitActs g seen v homes xs → FitActs g seen v homes ys → FitActs g seen v homes (xs ++ ys)
@@ -124,7 +127,7 @@ taken_on g seen v w homes (reference_row k name z at) first h = h
 
 pub acts_on : (g : Ground) (seen : Seen) (v w : Value) (homes : Homes) (acts : List Act) → Met g seen v w → FitActs g seen w homes acts → FitActs g seen v homes acts
 acts_on g seen v w homes [] first h = tt
-acts_on g seen v w homes (put k r ∷ acts) first h = (tt, acts_on g seen v w homes acts first h.1)
+acts_on g seen v w homes (put k r ∷ acts) first h = (h.0, acts_on g seen v w homes acts first h.1)
 acts_on g seen v w homes (take t ∷ acts) first h = (taken_on g seen v w homes t first h.0, acts_on g seen v w homes acts first h.1)
 
 -- ---- keys that are new
@@ -145,6 +148,7 @@ grows_none g seen v s u homes next rows births dues =
       sheets = tt;
       births = births ∙ sym (append-nil s.births);
       dues = dues ∙ sym (append-nil s.dues);
+      below = λ low. let e = next in omega (arith, e, low);
       keys = tt;
       fit = tt;
     }
@@ -165,6 +169,7 @@ grows_more g seen v xs ys s t u a b =
           (zip-append HasSheet a.added b.added (sheets_by s.next xs) (sheets_by (s.next + takes xs) ys) a.sheets (subst (λ m. AllZip HasSheet b.added (sheets_by m ys)) n b.sheets));
       births = append_two s.births t.births u.births (births_by s.next xs) (births_by (s.next + takes xs) ys) a.births (b.births ∙ ap (λ m. t.births ++ births_by m ys) n) ∙ ap (λ z. s.births ++ z) (sym (births-append s.next xs ys));
       dues = append_two s.dues t.dues u.dues (dues_by s.next xs) (dues_by (s.next + takes xs) ys) a.dues (b.dues ∙ ap (λ m. t.dues ++ dues_by m ys) n) ∙ ap (λ z. s.dues ++ z) (sym (dues-append s.next xs ys));
+      below = λ low. b.below (a.below low);
       keys = subst (AreNew s.homes) (sym (homes-append s.next xs ys))
           (new-append s.homes (homes_by s.next xs) (homes_by (s.next + takes xs) ys) a.keys (subst (λ z. AreNew z (homes_by (s.next + takes xs) ys)) a.homes (subst (λ m. AreNew t.homes (homes_by m ys)) n b.keys)));
       fit = acts-append g seen v u.homes xs ys (acts_more g seen v t.homes u.homes xs (λ x i. subst (In x) (sym b.homes) (in_front t.homes (homes_by t.next ys) x i)) a.fit) b.fit;
@@ -172,7 +177,7 @@ grows_more g seen v xs ys s t u a b =
 
 pub grows_on : (g : Ground) (seen : Seen) (v w : Value) (acts : List Act) (s u : Stage) → Met g seen v w → Grows g seen w acts s u → Grows g seen v acts s u
 grows_on g seen v w acts s u first a =
-    record { homes = a.homes; next = a.next; added = a.added; rows = a.rows; sheets = a.sheets; births = a.births; dues = a.dues; keys = a.keys; fit = acts_on g seen v w u.homes acts first a.fit }
+    record { homes = a.homes; next = a.next; added = a.added; rows = a.rows; sheets = a.sheets; births = a.births; dues = a.dues; below = a.below; keys = a.keys; fit = acts_on g seen v w u.homes acts first a.fit }
 
 pub grows_took : (g : Ground) (seen : Seen) (v : Value) (t : Taken) (s u : Stage) → Took t s u → AreNew s.homes (home_for s.next t) → FitsTaken g seen v u.homes t → Grows g seen v (take t ∷ []) s u
 grows_took g seen v t s u a new fit =
@@ -184,12 +189,13 @@ grows_took g seen v t s u a new fit =
       sheets = subst (λ z. AllZip HasSheet a.added z) (sym (append-nil (sheet_for s.next t))) a.sheets;
       births = a.births ∙ ap (λ z. s.births ++ z) (sym (append-nil (birth_for s.next t)));
       dues = a.dues ∙ ap (λ z. s.dues ++ z) (sym (append-nil (due_for s.next t)));
+      below = λ low. a.below;
       keys = subst (AreNew s.homes) (sym (append-nil (home_for s.next t))) new;
       fit = (fit, tt);
     }
 
-pub grows_put : (g : Ground) (seen : Seen) (v : Value) (k : Key) (r : Ref) (s u : Stage) → u ≡ record s { homes = s.homes ++ (k, r) ∷ [] } → IsNew k s.homes → Grows g seen v (put k r ∷ []) s u
-grows_put g seen v k r s u e new =
+pub grows_put : (g : Ground) (seen : Seen) (v : Value) (k : Key) (r : Ref) (s u : Stage) → IsPlace r → u ≡ record s { homes = s.homes ++ (k, r) ∷ [] } → IsNew k s.homes → Grows g seen v (put k r ∷ []) s u
+grows_put g seen v k r s u is_place e new =
     record {
       homes = ap (λ z. z.homes) e;
       next = let f = ap (λ z. z.next) e in omega (arith, f);
@@ -198,8 +204,9 @@ grows_put g seen v k r s u e new =
       sheets = tt;
       births = ap (λ z. z.births) e ∙ sym (append-nil s.births);
       dues = ap (λ z. z.dues) e ∙ sym (append-nil s.dues);
+      below = λ low. let f = ap (λ z. z.next) e in omega (arith, f, low);
       keys = (new, tt);
-      fit = (tt, tt);
+      fit = (is_place, tt);
     }
 
 -- the payload is no part of growth
@@ -213,6 +220,39 @@ grows_out g seen v acts s t u a e =
       sheets = a.sheets;
       births = ap (λ z. z.births) e ∙ a.births;
       dues = ap (λ z. z.dues) e ∙ a.dues;
+      below = λ low. let f = ap (λ z. z.next) e in let h = a.below low in omega (arith, f, h);
       keys = a.keys;
       fit = subst (λ z. FitActs g seen v z acts) (sym (ap (λ z. z.homes) e)) a.fit;
     }
+
+-- ---- homes stay places
+
+pub root_place : (n : ℕ) → n < 2 ^ 31 → IsPlace (root n)
+root_place n low = record { small = low; names = All-nil IsName }
+
+home_places : (n : ℕ) (t : Taken) (k : Key) (r : Ref) → n < 2 ^ 31 → In (k, r) (home_for n t) → IsPlace r
+home_places n (atom_row None kind a) k r low i = absurd i
+home_places n (atom_row (Some home) kind a) k r low (inl e) = subst IsPlace (sym (ap (λ z. z.1) e)) (root_place n low)
+home_places n (atom_row (Some home) kind a) k r low (inr i) = absurd i
+home_places n (value_row home) k r low (inl e) = subst IsPlace (sym (ap (λ z. z.1) e)) (root_place n low)
+home_places n (value_row home) k r low (inr i) = absurd i
+home_places n (entries_row home) k r low i = absurd i
+home_places n (task home w) k r low (inl e) = subst IsPlace (sym (ap (λ z. z.1) e)) (root_place n low)
+home_places n (task home w) k r low (inr i) = absurd i
+home_places n (stream_row stream flows) k r low (inl e) = subst IsPlace (sym (ap (λ z. z.1) e)) (root_place n low)
+home_places n (stream_row stream flows) k r low (inr i) = absurd i
+home_places n (reference_row home name v at) k r low (inl e) = subst IsPlace (sym (ap (λ z. z.1) e)) (root_place n low)
+home_places n (reference_row home name v at) k r low (inr i) = absurd i
+
+acts_places : (g : Ground) (seen : Seen) (v : Value) (homes : Homes) (acts : List Act) (n : ℕ) (k : Key) (r : Ref) → n + takes acts ≤ 2 ^ 31 → FitActs g seen v homes acts → In (k, r) (homes_by n acts) → IsPlace r
+acts_places g seen v homes [] n k r low fit i = absurd i
+acts_places g seen v homes (put node at ∷ acts) n k r low fit (inl e) = subst IsPlace (sym (ap (λ z. z.1) e)) fit.0
+acts_places g seen v homes (put node at ∷ acts) n k r low fit (inr i) = acts_places g seen v homes acts n k r low fit.1 i
+acts_places g seen v homes (take t ∷ acts) n k r low fit i =
+    ⊎_elim (λ j. home_places n t k r (omega (arith, low)) j) (λ j. acts_places g seen v homes acts (suc n) k r (omega (arith, low)) fit.1 j)
+    (in_either (home_for n t) (homes_by (suc n) acts) (k, r) i)
+
+pub places_kept : (g : Ground) (seen : Seen) (v : Value) (acts : List Act) (s u : Stage) → s.next ≤ 2 ^ 31 → ArePlaces s.homes → Grows g seen v acts s u → ArePlaces u.homes
+places_kept g seen v acts s u low places grown k r i =
+    ⊎_elim (λ j. places k r j) (λ j. acts_places g seen v u.homes acts s.next k r (let e = grown.next in let h = grown.below low in omega (arith, e, h)) grown.fit j)
+    (in_either s.homes (homes_by s.next acts) (k, r) (subst (In (k, r)) grown.homes i))

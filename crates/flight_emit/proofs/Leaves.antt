@@ -30,7 +30,7 @@ use Rattle.flight_state.specs.Local.{Seen}
 use Rattle.flight_emit.specs.Sheet.{filled, leaf, root}
 use Rattle.flight_emit.specs.Good as good
 use Rattle.flight_emit.specs.Good.{Gives, itself, IsLeaf, IsPlainKind}
-use Rattle.flight_emit.specs.Log.{Taken, atom_row, Act, take, sheets_by, sheet_for, HasSheet, Stage, Grows, Took, Put, FitsTaken}
+use Rattle.flight_emit.specs.Log.{Taken, atom_row, Act, take, places_by, sheets_by, home_for, sheet_for, AreNew, HasSheet, Stage, Grows, Took, Put, FitsTaken}
 use Rattle.flight_emit.specs.Wrote.{WroteLeaf}
 use Rattle.flight_emit.proofs.Growing.{grows_none, grows_took, grows_out}
 
@@ -48,8 +48,8 @@ atom_in_place g seen v a s u target certain writable e =
     }
 
 -- a row of one atom, which is no home
-pub took_atom : (kind : RowKind) (a : Atom) (r : Row) (s u : Stage) → u ≡ record s { next = suc s.next; rows = s.rows ++ r ∷ [] } → IsRow s.next kind r → HasAtom a r → r.kind ≡ kind → Took (atom_row None kind a) s u
-took_atom kind a r s u e is_row has same =
+pub took_atom : (kind : RowKind) (a : Atom) (r : Row) (s u : Stage) → s.next < 2 ^ 31 → u ≡ record s { next = suc s.next; rows = s.rows ++ r ∷ [] } → IsRow s.next kind r → HasAtom a r → r.kind ≡ kind → Took (atom_row None kind a) s u
+took_atom kind a r s u low e is_row has same =
     record {
       homes = ap (λ z. z.homes) e ∙ sym (append-nil s.homes);
       next = ap (λ z. z.next) e;
@@ -58,6 +58,7 @@ took_atom kind a r s u e is_row has same =
       sheets = ((is_row, subst (λ k. IsTree Wire r (record { kind = k; places = place.Atom a ∷ [] })) same has), tt);
       births = ap (λ z. z.births) e ∙ sym (append-nil s.births);
       dues = ap (λ z. z.dues) e ∙ sym (append-nil s.dues);
+      below = let f = ap (λ z. z.next) e in omega (arith, f, low);
       out = ap (λ z. z.out) e;
     }
 
@@ -94,3 +95,25 @@ text_by_row g seen text other id same s t u is_id below took put =
 pub atom_written : (r : Result Row Memory) (a : Atom) (tokens : List Token) → tokens ≡ token_of (place.Atom a) ∷ [] → IsWritableAtom a → IfOk r (HasWritten tokens) → IfOk r (HasAtom a)
 atom_written (Ok row) a tokens e writable h = h (single (place.Atom a)) e (record { writable = writable; shallow = omega arith })
 atom_written (Err refused) a tokens e writable h = tt
+
+-- ---- a leaf, by what was done before it
+
+pub leaf_after : (g : Ground) (seen : Seen) (v : Value) (acts : List Act) (at : Place) (s t u : Stage) → Grows g seen v acts s t → places_by acts ≡ [] → Put (token_of at ∷ []) t u → t.out ≡ s.out → IsLeaf g seen t.homes (sheets_by s.next acts) at v → IsWritablePlace at → WroteLeaf g seen v s u
+leaf_after g seen v acts at s t u grown none e same is_leaf writable =
+    record {
+      acts = acts;
+      place = at;
+      grows = grows_out g seen v acts s t u grown (e ∙ ap (λ z. record t { out = z }) (sym (ap (λ z. z.out) e)));
+      tokens = ap (λ z. z.out) e ∙ ap (λ z. z ++ token_of at ∷ []) same;
+      leaf = (v, itself, subst (λ z. IsLeaf g seen z (sheets_by s.next acts) at v) (sym (ap (λ z. z.homes) e)) is_leaf);
+      writable = writable;
+      no_places = none;
+    }
+
+pub leaf_found : (g : Ground) (seen : Seen) (v : Value) (at : Place) (s u : Stage) → Put (token_of at ∷ []) s u → IsLeaf g seen s.homes [] at v → IsWritablePlace at → WroteLeaf g seen v s u
+leaf_found g seen v at s u e is_leaf writable = leaf_after g seen v [] at s s u (grows_none g seen v s s refl refl refl refl refl) refl e refl is_leaf writable
+
+pub leaf_taken : (g : Ground) (seen : Seen) (v : Value) (taken : Taken) (at : Place) (s t u : Stage) → Took taken s t → AreNew s.homes (home_for s.next taken) → FitsTaken g seen v t.homes taken → Put (token_of at ∷ []) t u
+    → IsLeaf g seen t.homes (sheets_by s.next (take taken ∷ [])) at v → IsWritablePlace at → WroteLeaf g seen v s u
+leaf_taken g seen v taken at s t u took new fit e is_leaf writable =
+    leaf_after g seen v (take taken ∷ []) at s t u (grows_took g seen v taken s t took new fit) refl e took.out is_leaf writable

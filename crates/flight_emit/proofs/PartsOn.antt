@@ -1,5 +1,5 @@
 -- Parts that are written one after another, and the composite that they make.
-use Rattle.std.proofs.Common.{◌≡◌, ◌≢◌, ℕ, zero, suc, ◌+◌, ◌≤◌, ◌⊎◌, inl, inr, ⊎_elim, List, [], ◌∷◌, ◌++◌, map, Option, Some, None, refl, sym, ap, ap₂, ◌∙◌, subst, arith, append_assoc, append-nil}
+use Rattle.std.proofs.Common.{◌≡◌, ◌≢◌, ℕ, zero, suc, ◌+◌, ◌^◌, ◌≤◌, ◌⊎◌, inl, inr, ⊎_elim, List, [], ◌∷◌, ◌++◌, map, Option, Some, None, refl, sym, ap, ap₂, ◌∙◌, subst, arith, append_assoc, append-nil}
 use Rattle.std.proofs.lemmas.List.{map-append}
 use Rattle.std.proofs.lemmas.Option.{none-some, same_Some}
 use Rattle.std.specs.List.{AllZip}
@@ -136,6 +136,7 @@ parts_more g seen v w form r names values levels name s t m u a named met b =
           sheets = subst (λ z. AllZip HasSheet more.added (sheets_by z ys)) same more.sheets;
           births = more.births ∙ ap₂ (λ y z. y ++ births_by z ys) (ap (λ z. z.births) named) same;
           dues = more.dues ∙ ap₂ (λ y z. y ++ dues_by z ys) (ap (λ z. z.dues) named) same;
+          below = λ low. more.below (subst (λ z. z ≤ 2 ^ 31) (sym same) low);
           keys = subst (λ z. AreNew z (homes_by t.next ys)) (ap (λ z. z.homes) named) (subst (λ z. AreNew m.homes (homes_by z ys)) same more.keys);
           fit = more.fit;
         } in

@@ -1,5 +1,5 @@
 -- What writing a value adds, one act after another.
-use Rattle.std.specs.Prelude.{ℕ, suc, ◌+◌, ◌≡◌, ◌⊎◌, List, [], ◌∷◌, ◌++◌, map, Option, Some, None, slice_get}
+use Rattle.std.specs.Prelude.{ℕ, suc, ◌+◌, ◌^◌, ◌≤◌, ◌≡◌, ◌⊎◌, List, [], ◌∷◌, ◌++◌, map, Option, Some, None, slice_get}
 use Rattle.std.specs.List.{AllZip}
 use Rattle.json.specs.Token.{Token}
 use Rattle.flight_value.specs.Listed.{In}
@@ -11,6 +11,7 @@ use Rattle.flight_value.specs.declared.key.Key.TheVariants as key
 use Rattle.flight_value.specs.declared.made.Tree.TheVariants as tree
 use Rattle.flight_syntax.specs.declared.script.Flowing.{Flowing}
 use Rattle.flight_text.specs.declared.mark.Ref.{Ref}
+use Rattle.flight_text.specs.Mark.{IsPlace}
 use Rattle.flight_row.specs.declared.row.Row.{Row}
 use Rattle.flight_row.specs.declared.row.RowKind.{RowKind}
 use Rattle.flight_row.specs.declared.row.RowKind.TheVariants as row
@@ -151,7 +152,7 @@ FitsTaken g seen v homes (stream_row stream flows) = (slice_get g.script.streams
 FitsTaken g seen v homes (reference_row k name w at) = HasOneSlot g seen k (store.action name) w × IsBoundPlace at × ((z : Value) × Gives g seen w z × IsLeaf g seen homes [] at z)
 
 abbrev pub FitsAct : Ground → Seen → Value → Homes → Act → Type 0
-FitsAct g seen v homes (put k r) = Unit {0}
+FitsAct g seen v homes (put k r) = IsPlace r
 FitsAct g seen v homes (take t) = FitsTaken g seen v homes t
 
 abbrev pub FitActs : Ground → Seen → Value → Homes → List Act → Type 0
@@ -194,6 +195,7 @@ pub record Grows (g : Ground) (seen : Seen) (v : Value) (acts : List Act) (old n
   pub sheets : AllZip HasSheet added (sheets_by old.next acts)
   pub births : new.births ≡ old.births ++ births_by old.next acts
   pub dues : new.dues ≡ old.dues ++ dues_by old.next acts
+  pub below : old.next ≤ 2 ^ 31 → new.next ≤ 2 ^ 31
   pub keys : AreNew old.homes (homes_by old.next acts)
   pub fit : FitActs g seen v new.homes acts
 
@@ -206,11 +208,16 @@ pub record Took (t : Taken) (old new : Stage) : Type 0 where
   pub sheets : AllZip HasSheet added (sheet_for old.next t)
   pub births : new.births ≡ old.births ++ birth_for old.next t
   pub dues : new.dues ≡ old.dues ++ due_for old.next t
+  pub below : new.next ≤ 2 ^ 31
   pub out : new.out ≡ old.out
 
 -- more was written into the row
 abbrev pub Put : List Token → Stage → Stage → Type 0
 Put tokens old new = new ≡ record old { out = old.out ++ tokens }
+
+-- each home is a place that has a spelling
+abbrev pub ArePlaces : Homes → Type 0
+ArePlaces homes = (k : Key) (r : Ref) → In (k, r) homes → IsPlace r
 
 -- homes come after those that were there
 abbrev pub Extends : Homes → Homes → Type 0
