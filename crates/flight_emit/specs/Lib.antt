@@ -4,3 +4,5 @@ pub mod Whole
 pub mod Log
 pub mod Wrote
 pub mod Seen
+pub mod Nodes
+pub mod At

@@ -7,8 +7,10 @@
 //! - `Whole.antt`: all that an answer adds, with what each new id is for.
 #![tactic(auto)]
 
+mod at;
 mod law;
 mod leaf;
+mod node;
 mod scene;
 mod take;
 mod work;
