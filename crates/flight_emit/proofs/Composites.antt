@@ -13,6 +13,7 @@ use Rattle.flight_home.specs.Homes.{Homes, IsNew}
 use Rattle.flight_render.specs.declared.root.Ground.{Ground}
 use Rattle.flight_render.specs.Jobs.{Value}
 use Rattle.flight_meaning.specs.declared.place.Place.{Place}
+use Rattle.flight_meaning.specs.Meaning.{Token as Kind, token_label}
 use Rattle.flight_meaning.specs.declared.place.Place.TheVariants as place
 use Rattle.flight_payload.specs.Tree.{Tree, single, array, object, element, trees_of, names, depth, tree_depth, prop_depth}
 use Rattle.flight_payload.specs.Written.{token_of, tokens_of, tree_tokens, prop_tokens, mark_token, IsKey, IsWritable, AreWritable, HaveWritable}
@@ -20,11 +21,11 @@ use Rattle.flight_state.specs.Local.{Seen, Met, at_first, shape_seen}
 use Rattle.flight_state.proofs.Lists.{in_front, in_behind, in_either}
 use Rattle.flight_emit.specs.declared.work.Due.{Due}
 use Rattle.flight_emit.specs.declared.work.Due.TheVariants as due
-use Rattle.flight_emit.specs.Sheet.{Note, Form, as_array, as_object, as_element, Drawn, leaf, token as is_token, composite, Parts, no_parts, part_and, names_in, values_in, tree_of, trees_in, props_with, composed, value_at, label_of, below, homes_in, homes_of, Sheet}
+use Rattle.flight_emit.specs.Sheet.{Note, Form, as_array, as_object, as_element, Drawn, leaf, token as is_token, composite, Parts, no_parts, part_and, names_in, values_in, tree_of, trees_in, props_with, composed, value_at, label_of, token_place, below, homes_in, homes_of, Sheet}
 use Rattle.flight_emit.specs.Good.{Gives, itself, in_place, IsNode, IsLeaf, IsHomeOf, IsHome, IsMeant, HasNames, Entries, IsGood, AreGood}
-use Rattle.flight_emit.specs.Log.{Act, put, take, takes, homes_by, places_by, sheets_by, births_by, dues_by, AreNew, HasSheet, Stage, Grows}
-use Rattle.flight_emit.specs.Wrote.{WroteLeaf, AreDue, Wrote, part_tokens, tokens_in, AllWritable, AllWithin, WroteParts, opens, closes}
-use Rattle.flight_emit.proofs.Growing.{Keeps, grows_more, grows_put, grows_out, grows_on}
+use Rattle.flight_emit.specs.Log.{Taken, entries_row, Act, put, take, value_of_key, IsMetNode, Took, takes, homes_by, places_by, sheets_by, births_by, dues_by, AreNew, HasSheet, Stage, Grows}
+use Rattle.flight_emit.specs.Wrote.{WroteLeaf, AreDue, Wrote, part_tokens, tokens_in, AllWritable, AllWithin, WroteParts, opens, closes, note_at, WroteNode}
+use Rattle.flight_emit.proofs.Growing.{Keeps, grows_none, grows_took, grows_more, grows_put, grows_out, grows_on}
 use Rattle.flight_emit.proofs.PartsOn.{goods_more, good_more}
 
 -- ---- tokens
@@ -125,46 +126,100 @@ compose as_element ps levels readable all within =
     subst (λ z. Composed as_element z levels) (sym same)
     (element_composed readable.0 readable.1 readable.2 levels readable.4 (subst AllWritable same all) (subst (AllWithin levels) same within))
 
--- ---- a composite at its home
+-- ---- a node at its home
 
-pub composite_wrote : (g : Ground) (seen : Seen) (v : Value) (k : Key) (r : Ref) (form : Form) (names : List (List ℕ)) (values : List Value) (levels : ℕ) (s a b c u : Stage)
-    → IsPlace r → a ≡ record s { homes = s.homes ++ (k, r) ∷ [] } → IsNew k s.homes → b ≡ record a { out = a.out ++ opens form }
-    → (w : WroteParts g seen v form r names values levels b c) → u ≡ record c { out = c.out ++ closes form }
-    → IsNode g seen v k → shape_seen g seen k ≡ Some (record { label = label_of form names; slots = values }) → HasNames form names → IsReadableForm form w.parts
-    → Wrote g seen r v (suc levels) s u
-composite_wrote g seen v k r form names values levels s a b c u is_place homed new begun w ended node shape has_names readable =
+note_value : (d : Drawn) (note : Note) → note_at d ≡ Some note → value_at d ≡ Some note.value
+note_value (leaf o at) note e = absurd (none-some note e)
+note_value (is_token other kind id) note e = ap (λ z. Some z.value) (same_Some other note e)
+note_value (composite None form ps) note e = absurd (none-some note e)
+note_value (composite (Some other) form ps) note e = ap (λ z. Some z.value) (same_Some other note e)
+
+note_home : (r : Ref) (d : Drawn) (note : Note) (x : Key) (h : Ref) → note_at d ≡ Some note → ◌≡◌ {A = Key × Ref} (x, h) (note.key, r) → In (x, h) (homes_in r d)
+note_home r (leaf o at) note x h e i = absurd (none-some note e)
+note_home r (is_token other kind id) note x h e i = inl (i ∙ ap (λ z. (z.key, r)) (sym (same_Some other note e)))
+note_home r (composite None form ps) note x h e i = absurd (none-some note e)
+note_home r (composite (Some other) form ps) note x h e i = inl (i ∙ ap (λ z. (z.key, r)) (sym (same_Some other note e)))
+
+-- a composite
+pub composite_node : (g : Ground) (seen : Seen) (k : Key) (r : Ref) (form : Form) (names : List (List ℕ)) (values : List Value) (levels : ℕ) (s b c u : Stage)
+    → b ≡ record s { out = s.out ++ opens form } → (w : WroteParts g seen (value_of_key k) form r names values levels b c) → u ≡ record c { out = c.out ++ closes form }
+    → IsNode g seen (value_of_key k) k → shape_seen g seen k ≡ Some (record { label = label_of form names; slots = values }) → HasNames form names → IsReadableForm form w.parts
+    → WroteNode g seen k r (suc levels) s u
+composite_node g seen k r form names values levels s b c u begun w ended node shape has_names readable =
     let ps = w.parts in
+    let v = value_of_key k in
     let made = compose form ps levels readable w.writable w.shallow in
-    let from = ap (λ z. z.homes) begun ∙ ap (λ z. z.homes) homed in
-    let id = ap (λ z. z.next) begun ∙ ap (λ z. z.next) homed in
-    let first = grows_out g seen v (put k r ∷ []) s a b (grows_put g seen v k r s a is_place homed new) (begun ∙ ap (λ z. record a { out = z }) (sym (ap (λ z. z.out) begun))) in
-    let all = grows_more g seen v (put k r ∷ []) w.acts s b c first w.grows in
-    let grown = grows_out g seen v (put k r ∷ w.acts) s c u all (ended ∙ ap (λ z. record c { out = z }) (sym (ap (λ z. z.out) ended))) in
+    let id = ap (λ z. z.next) begun in
+    let first = grows_none g seen v s b (ap (λ z. z.homes) begun) id (ap (λ z. z.rows) begun) (ap (λ z. z.births) begun) (ap (λ z. z.dues) begun) in
+    let all = grows_more g seen v [] w.acts s b c first w.grows in
     let same_homes = ap (λ z. z.homes) ended in
     record {
-      acts = put k r ∷ w.acts;
+      acts = w.acts;
       drawn = composite (Some (record { value = v; key = k })) form ps;
-      grows = grown;
-      tokens = ap (λ z. z.out) ended ∙ (ap (λ z. z ++ closes form) (w.tokens ∙ ap (λ z. z ++ tokens_in form ps) (ap (λ z. z.out) begun ∙ ap (λ z. z ++ opens form) (ap (λ z. z.out) homed)))
+      grows = grows_out g seen v w.acts s c u all (ended ∙ ap (λ z. record c { out = z }) (sym (ap (λ z. z.out) ended)));
+      tokens = ap (λ z. z.out) ended ∙ (ap (λ z. z ++ closes form) (w.tokens ∙ ap (λ z. z ++ tokens_in form ps) (ap (λ z. z.out) begun))
           ∙ (append_assoc (s.out ++ opens form) (tokens_in form ps) (closes form) ∙ (append_assoc s.out (opens form) (tokens_in form ps ++ closes form) ∙ ap (λ z. s.out ++ z) (sym made.tokens))));
-      is_value = refl;
+      is_note = refl;
       good = (
         (((v, itself, node), inl refl), (values, shape_named, w.are_values)),
         subst (HasNames form) (sym w.are_names) has_names,
-        goods_more g seen c.homes u.homes (homes_by b.next w.acts) (homes_by s.next (put k r ∷ w.acts)) (sheets_by b.next w.acts) (sheets_by s.next (put k r ∷ w.acts))
-            (AreDue g seen (dues_by b.next w.acts)) (AreDue g seen (dues_by s.next (put k r ∷ w.acts))) r ps
+        goods_more g seen c.homes u.homes (homes_by b.next w.acts) ((k, r) ∷ homes_by s.next w.acts) (sheets_by b.next w.acts) (sheets_by s.next w.acts)
+            (AreDue g seen (dues_by b.next w.acts)) (AreDue g seen (dues_by s.next w.acts)) r ps
             (λ x i. subst (In x) (sym same_homes) i)
             (λ x i. inr (subst (λ n. In x (homes_by n w.acts)) id i))
             (λ x i. subst (λ n. In x (sheets_by n w.acts)) id i)
             (λ x kind n h. (subst (λ m. In (due.Entries n x) (dues_by m w.acts)) id h.0, h.1)) w.good,
       );
-      placed = λ x h i. ⊎_elim (λ e. inl e) (λ j. inr (w.placed x h j)) i;
+      placed = λ x h i. inr (w.placed x h i);
       writable = made.writable;
       shallow = made.shallow;
     }
   where
     shape_named : shape_seen g seen k ≡ Some (record { label = label_of form (names_in w.parts); slots = values })
     shape_named = shape ∙ ap (λ z. Some (record { label = label_of form z; slots = values })) (sym w.are_names)
+
+-- the token of a Map or of a Set
+pub token_node : (g : Ground) (seen : Seen) (k : Key) (r : Ref) (kind : Kind) (levels : ℕ) (slots : List Value) (s t u : Stage)
+    → Took (entries_row k) s t → u ≡ record t { out = t.out ++ token_of (token_place kind s.next) ∷ [] } → IsMetNode g seen (value_of_key k) k
+    → shape_seen g seen k ≡ Some (record { label = token_label kind; slots = slots }) → IsWritable (single (token_place kind s.next)) → tree_of (is_token (record { value = value_of_key k; key = k }) kind s.next) ≡ single (token_place kind s.next)
+    → WroteNode g seen k r levels s u
+token_node g seen k r kind levels slots s t u took ended met shape writable same =
+    let v = value_of_key k in
+    let grown = grows_took g seen v (entries_row k) s t took tt met in
+    record {
+      acts = take (entries_row k) ∷ [];
+      drawn = is_token (record { value = v; key = k }) kind s.next;
+      grows = grows_out g seen v (take (entries_row k) ∷ []) s t u grown (ended ∙ ap (λ z. record t { out = z }) (sym (ap (λ z. z.out) ended)));
+      tokens = ap (λ z. z.out) ended ∙ (ap (λ z. z ++ token_of (token_place kind s.next) ∷ []) took.out ∙ ap (λ z. s.out ++ tokens_of z) (sym same));
+      is_note = refl;
+      good = (((v, itself, met.node), inl refl), (inl refl, (slots, shape)));
+      placed = λ x h i. absurd i;
+      writable = subst IsWritable (sym same) writable;
+      shallow = subst (λ z. depth z ≤ levels) (sym same) (omega arith);
+    }
+
+-- a node whose home is put first
+pub node_put : (g : Ground) (seen : Seen) (k : Key) (r : Ref) (levels : ℕ) (s a u : Stage) → IsPlace r → a ≡ record s { homes = s.homes ++ (k, r) ∷ [] } → IsNew k s.homes → WroteNode g seen k r levels a u → Wrote g seen r (value_of_key k) levels s u
+node_put g seen k r levels s a u is_place homed new w =
+    let v = value_of_key k in
+    let id = ap (λ z. z.next) homed in
+    let all = grows_more g seen v (put k r ∷ []) w.acts s a u (grows_put g seen v k r s a is_place homed new) w.grows in
+    record {
+      acts = put k r ∷ w.acts;
+      drawn = w.drawn;
+      grows = all;
+      tokens = w.tokens ∙ ap (λ z. z ++ tokens_of (tree_of w.drawn)) (ap (λ z. z.out) homed);
+      is_value = note_value w.drawn (record { value = v; key = k }) w.is_note;
+      good = good_more g seen u.homes u.homes ((k, r) ∷ homes_by a.next w.acts) ((k, r) ∷ homes_by s.next w.acts) (sheets_by a.next w.acts) (sheets_by s.next w.acts)
+            (AreDue g seen (dues_by a.next w.acts)) (AreDue g seen (dues_by s.next w.acts)) r w.drawn
+            (λ x i. i)
+            (λ x i. subst (λ n. In x ((k, r) ∷ homes_by n w.acts)) id i)
+            (λ x i. subst (λ n. In x (sheets_by n w.acts)) id i)
+            (λ x kind n h. (subst (λ m. In (due.Entries n x) (dues_by m w.acts)) id h.0, h.1)) w.good;
+      placed = λ x h i. ⊎_elim (λ e. note_home r w.drawn (record { value = v; key = k }) x h w.is_note e) (λ j. w.placed x h j) i;
+      writable = w.writable;
+      shallow = w.shallow;
+    }
 
 -- ---- what is given in place
 

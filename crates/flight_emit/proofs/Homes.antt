@@ -33,7 +33,8 @@ use Rattle.flight_emit.specs.Good as good
 use Rattle.flight_emit.specs.Good.{Gives, IsNode, HasAtomRow, IsLeaf, HasEntries, IsPlainKind}
 use Rattle.flight_emit.proofs.Rows.{row_there, place_there}
 use Rattle.flight_emit.proofs.Shapes.{numbers_in, tree_numbers_in, Composite}
-use Rattle.flight_emit.proofs.Sits.{Paper, homes, rows, meant, Filled, places, at_path, Sits, PartsSit, value_first, composite_at, parts_at, sheet_sits, note_at, SitsAtHome}
+use Rattle.flight_emit.proofs.Sits.{Paper, homes, rows, meant, Filled, places, at_path, Sits, PartsSit, value_first, composite_at, parts_at, sheet_sits, SitsAtHome}
+use Rattle.flight_emit.specs.Wrote.{note_at}
 
 -- ---- rows with values
 

@@ -27,6 +27,7 @@ use Rattle.flight_state.proofs.Lists.{in_front, in_behind, in_either, in_map, ma
 use Rattle.flight_emit.specs.Sheet.{Note, Form, Drawn, leaf, token, composite, Parts, no_parts, part_and, tree_of, head, value_in, value_at, numbered, meant_from, meant_in, below, root, home_of, homes_in, homes_of, Sheet, filled, opening, rows_on, homes_on, spot, spotted, meant_on, meant_of}
 use Rattle.flight_emit.specs.Good.{HasEntries, IsGood, AreGood}
 use Rattle.flight_emit.specs.Whole.{Use, OnPaper}
+use Rattle.flight_emit.specs.Wrote.{note_at}
 use Rattle.flight_emit.proofs.Shapes.{PartsStand, PartsLead, Composite, composite_there}
 
 -- ---- all that is on paper
@@ -169,11 +170,6 @@ mutual
   find_part p x (part_and name d rest) n path s m v i =
       ⊎_elim (λ j. find_meant p x d n (path ++ name ∷ []) s.0 m v j) (λ j. find_part p x rest (n + count (tree_of d)) path s.1 m v j)
       (in_either (meant_from n d) (meant_in (n + count (tree_of d)) rest) (m, v) i)
-
-abbrev pub note_at : Drawn → Option Note
-note_at (leaf o at) = None
-note_at (token note kind id) = Some note
-note_at (composite noted form ps) = noted
 
 pub record SitsAtHome (p : Paper) (x : Filled p) (k : Key) (r : Ref) : Type 0 where
   pub drawn : Drawn

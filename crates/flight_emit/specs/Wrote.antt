@@ -14,9 +14,9 @@ use Rattle.flight_payload.specs.Written.{token_of, mark_token, tokens_of, IsWrit
 use Rattle.flight_state.specs.Local.{Seen, shape_seen}
 use Rattle.flight_emit.specs.declared.work.Due.{Due}
 use Rattle.flight_emit.specs.declared.work.Due.TheVariants as due
-use Rattle.flight_emit.specs.Sheet.{Form, as_array, as_object, as_element, Drawn, Parts, no_parts, part_and, names_in, values_in, tree_of, value_at, homes_in, homes_of}
+use Rattle.flight_emit.specs.Sheet.{Note, Form, as_array, as_object, as_element, Drawn, leaf, token as is_token, composite, Parts, no_parts, part_and, names_in, values_in, tree_of, value_at, homes_in, homes_of}
 use Rattle.flight_emit.specs.Good.{Gives, IsLeaf, Entries, IsGood, AreGood}
-use Rattle.flight_emit.specs.Log.{Act, homes_by, places_by, sheets_by, dues_by, Stage, Grows}
+use Rattle.flight_emit.specs.Log.{Act, value_of_key, homes_by, places_by, sheets_by, dues_by, Stage, Grows}
 
 -- a value is written as an atom or a reference
 pub record WroteLeaf (g : Ground) (seen : Seen) (v : Value) (old new : Stage) : Type 0 where
@@ -84,3 +84,22 @@ opens as_element = token.begin_array ∷ mark_token ∷ []
 abbrev pub closes : Form → List Token
 closes as_object = token.end_object ∷ []
 closes form = token.end_array ∷ []
+
+-- ---- a node whose home is there already
+
+abbrev pub note_at : Drawn → Option Note
+note_at (leaf o at) = None
+note_at (is_token note kind id) = Some note
+note_at (composite noted form ps) = noted
+
+-- a node is written whole at its home
+pub record WroteNode (g : Ground) (seen : Seen) (k : Key) (r : Ref) (levels : ℕ) (old new : Stage) : Type 0 where
+  pub acts : List Act
+  pub drawn : Drawn
+  pub grows : Grows g seen (value_of_key k) acts old new
+  pub tokens : new.out ≡ old.out ++ tokens_of (tree_of drawn)
+  pub is_note : note_at drawn ≡ Some (record { value = value_of_key k; key = k })
+  pub good : IsGood g seen new.homes ((k, r) ∷ homes_by old.next acts) (sheets_by old.next acts) (AreDue g seen (dues_by old.next acts)) r drawn
+  pub placed : (l : Key) (a : Ref) → In (l, a) (places_by acts) → In (l, a) (homes_in r drawn)
+  pub writable : IsWritable (tree_of drawn)
+  pub shallow : depth (tree_of drawn) ≤ levels
