@@ -2,7 +2,8 @@
 use Rattle.std.proofs.Common.{◌≡◌, ◌≢◌, ℕ, zero, suc, ◌+◌, ◌<◌, ◌^◌, ◌⊎◌, inl, inr, List, [], ◌∷◌, ◌++◌, Option, Some, None, refl, sym, ap, ◌∙◌, subst, arith, append-nil}
 use Rattle.std.proofs.lemmas.List.Elements.{All-nil}
 use Rattle.std.specs.List.{AllZip}
-use Rattle.std.specs.Prelude.{Result, Ok, Err, IfOk}
+use Rattle.std.specs.Prelude.{Result, Ok, Err, IfOk, OnOk}
+use Rattle.flight_value.specs.Graph.{IsValidAtom}
 use Rattle.json.specs.Token.{Token}
 use Rattle.flight_value.specs.declared.memory.Memory.{Memory}
 use Rattle.flight_value.specs.Listed.{In}
@@ -17,12 +18,12 @@ use Rattle.flight_row.specs.declared.row.RowKind.{RowKind}
 use Rattle.flight_row.specs.declared.row.RowKind.TheVariants as row
 use Rattle.flight_home.specs.Homes.{Homes}
 use Rattle.flight_render.specs.declared.root.Ground.{Ground}
-use Rattle.flight_render.specs.Jobs.{Value, shown, target_of}
+use Rattle.flight_render.specs.Jobs.{Value, shown, failed, target_of}
 use Rattle.flight_place.specs.declared.manner.Manner.TheVariants.{Wire}
 use Rattle.flight_place.specs.Rows.{IsTree}
 use Rattle.flight_meaning.specs.declared.place.Place.{Place}
 use Rattle.flight_meaning.specs.declared.place.Place.TheVariants as place
-use Rattle.flight_payload.specs.Written.{token_of, IsWritablePlace, IsWritableAtom}
+use Rattle.flight_payload.specs.Written.{token_of, HasToken, IsWritablePlace, IsWritableAtom}
 use Rattle.flight_payload.specs.Tree.{single}
 use Rattle.flight_payload.specs.Rows.{IsRow, HasAtom, HasWritten}
 use Rattle.flight_state.specs.Steps.{RefersTo}
@@ -117,3 +118,21 @@ pub leaf_taken : (g : Ground) (seen : Seen) (v : Value) (taken : Taken) (at : Pl
     → IsLeaf g seen t.homes (sheets_by s.next (take taken ∷ [])) at v → IsWritablePlace at → WroteLeaf g seen v s u
 leaf_taken g seen v taken at s t u took new fit e is_leaf writable =
     leaf_after g seen v (take taken ∷ []) at s t u (grows_took g seen v taken s t took new fit) refl e took.out is_leaf writable
+
+-- ---- an atom with a token
+
+has_certain : (a : Atom) → HasToken a → a ≡ atom.Pending → ⊥
+has_certain a h e = subst HasToken e h
+
+pub token_in_place : (r : Result (Unit {0}) Memory) (a : Atom) (s u : Homes → Stage) → HasToken a → IsValidAtom a → OnOk r ((homes : Homes) → Put (token_of (place.Atom a) ∷ []) (s homes) (u homes)) → OnOk r (IsValidAtom a → IsWritableAtom a)
+    → OnOk r ((g : Ground) (seen : Seen) (homes : Homes) → WroteLeaf g seen (shown (tree.Atom a)) (s homes) (u homes))
+token_in_place (Ok done) a s u token valid put writable = λ g seen homes. atom_in_place g seen (shown (tree.Atom a)) a (s homes) (u homes) refl (has_certain a token) (writable valid) (put homes)
+token_in_place (Err refused) a s u token valid put writable = tt
+
+pub failure_by_row : (g : Ground) (seen : Seen) (digest other : List ℕ) (id : ℕ) → other ≡ digest → (s t u : Stage) → id ≡ s.next → id < 2 ^ 31 → Took (atom_row None row.Error (atom.Failed other)) s t → Put (token_of (place.Lazy id) ∷ []) t u → WroteLeaf g seen (failed digest) s u
+failure_by_row g seen digest other id same s t u is_id below took put =
+    atom_by_row g seen (failed digest) (atom.Failed digest) row.Error (place.Lazy id) s t u tt refl (failure_certain digest) (subst (λ z. Took (atom_row None row.Error (atom.Failed z)) s t) same took) put
+    (inl (ap place.Lazy is_id)) below
+  where
+    failure_certain : (text : List ℕ) → atom.Failed text ≡ atom.Pending → ⊥
+    failure_certain text e = cc

@@ -8,3 +8,4 @@ pub mod Growing
 pub mod Leaves
 pub mod PartsOn
 pub mod Composites
+pub mod Known

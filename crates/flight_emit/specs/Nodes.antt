@@ -1,5 +1,5 @@
 -- The nodes and the slots that a writer goes through.
-use Rattle.std.specs.Prelude.{ℕ, ◌≡◌, List, [], ◌∷◌, map, Option, Some, None, slice_get, option_and_then}
+use Rattle.std.specs.Prelude.{ℕ, zero, suc, ◌≡◌, ◌≤◌, ◌^◌, List, [], ◌∷◌, ◌++◌, map, Option, Some, None, slice_get, option_and_then}
 use Rattle.flight_value.specs.Graph as graph
 use Rattle.flight_value.specs.Store as store
 use Rattle.flight_value.specs.Store.{Label}
@@ -17,7 +17,20 @@ use Rattle.flight_render.specs.declared.root.Ground.{Ground}
 use Rattle.flight_render.specs.Values.{tree_of, outcomes, node_in}
 use Rattle.flight_render.specs.Jobs.{Value, shown}
 use Rattle.flight_render.specs.Plain.{label_of_kind}
-use Rattle.flight_state.specs.Local.{Seen}
+use Rattle.std.specs.Fmt.{decimal}
+use Rattle.flight_value.specs.Listed.{In}
+use Rattle.flight_eval.specs.declared.body.Body.{Body}
+use Rattle.flight_render.specs.Valid.{IsNamed}
+use Rattle.flight_text.specs.declared.mark.Ref.{Ref}
+use Rattle.flight_meaning.specs.declared.place.Place.{Place}
+use Rattle.flight_meaning.specs.declared.place.Place.TheVariants as place
+use Rattle.flight_state.specs.Local.{Seen, Met, shape_seen}
+use Rattle.flight_value.specs.declared.made.Tree.TheVariants as tree
+use Rattle.flight_emit.specs.declared.value.Target.{Target}
+use Rattle.flight_emit.specs.declared.value.Target.TheVariants as target
+use Rattle.flight_emit.specs.Good.{IsNode}
+use Rattle.flight_emit.specs.Log.{value_of_key, Stage, ArePlaces}
+use Rattle.flight_emit.specs.Seen.{look, seen_of}
 use Rattle.flight_emit.specs.declared.node.Node.{Node as Written}
 use Rattle.flight_emit.specs.declared.node.Node.TheVariants as written
 use Rattle.flight_emit.specs.declared.node.Item.{Item}
@@ -104,3 +117,43 @@ IsNodeAt g seen k n = ⊥
 abbrev pub label_in : Ground → Written → Option Label
 label_in g (written.Made m) = label_of_kind g m.now.kind
 label_in g (written.Source source n) = Some (store.label_of n.now)
+
+-- ---- what a writer asks of what it writes
+
+-- the homes that are there have spellings, and so have ids up to the next
+abbrev pub IsReady : Stage → Type 0
+IsReady s = ArePlaces s.homes × (s.next ≤ 2 ^ 31)
+
+-- the slots of a node are named, and met from it
+pub record AreSlots (g : Ground) (bodies : List Body) (k : Key) (slots : List Value) : Type 0 where
+  pub named : (t : Tree) → In (shown t) slots → IsNamed g (look bodies) t
+  pub met : (w : Value) → In w slots → Met g (seen_of bodies) (value_of_key k) w
+
+-- the names of an array's first items
+abbrev pub indices : ℕ → List (List ℕ)
+indices zero = []
+indices (suc n) = indices n ++ decimal n ∷ []
+
+-- a key that values have
+abbrev pub IsValueKey : Key → Type 0
+IsValueKey (key.Client client) = ⊥
+IsValueKey (key.Symbol name) = ⊥
+IsValueKey (key.Server n) = ⊥
+IsValueKey k = Unit {0}
+
+-- what a value is
+abbrev pub IsTargetOf : Tree → Target → Type 0
+IsTargetOf t (target.Atom a) = t ≡ tree.Atom a.now
+IsTargetOf t (target.Key k) = (shown t ≡ value_of_key k) × IsValueKey k
+
+-- a node that is written: it stands at its key, is no server element, and its slots are named and met
+pub record IsWrittenNode (g : Ground) (bodies : List Body) (k : Key) (n : Written) (label : Label) : Type 0 where
+  pub node : IsNode g (seen_of bodies) (value_of_key k) k
+  pub shape : shape_seen g (seen_of bodies) k ≡ Some (record { label = label; slots = slots_in n })
+  pub slots : AreSlots g bodies k (slots_in n)
+
+-- how a reference to a node is written
+abbrev pub reference_place : Sort → Ref → Place
+reference_place sort.Promise at = place.Promise at.id
+reference_place sort.Action at = place.Action at.id
+reference_place s at = place.Value at

@@ -1,12 +1,17 @@
 -- What a writer sees by the bodies that finished.
-use Rattle.std.specs.Prelude.{ℕ, suc, Bool, List, [], ◌∷◌, ◌++◌, if◌then◌else◌, Option, Some, None, length, take, drop}
+use Rattle.std.specs.Prelude.{ℕ, suc, ◌≡◌, Bool, List, [], ◌∷◌, ◌++◌, if◌then◌else◌, Option, Some, None, length, take, drop}
+use Rattle.std.specs.List.{AllByRecursion}
 use Rattle.std.specs.Option.{option_or}
 use Rattle.std.specs.Str.{bytes_eq}
 use Rattle.flight_value.specs.declared.made.Made.{Made}
+use Rattle.flight_value.specs.declared.made.MadeKind.TheVariants as kind
+use Rattle.flight_value.specs.declared.made.Tree.{Tree}
 use Rattle.flight_value.specs.declared.name.Name.{Name}
 use Rattle.flight_eval.specs.declared.body.Body.{Body}
 use Rattle.flight_eval.specs.Attempted.{end_of}
-use Rattle.flight_render.specs.Run.{End}
+use Rattle.flight_render.specs.declared.root.Ground.{Ground}
+use Rattle.flight_render.specs.Run.{End, gave}
+use Rattle.flight_render.specs.Valid.{IsValidGround, IsNamed, MadeWell, IsKey}
 use Rattle.flight_render.specs.Values.{made_in}
 use Rattle.flight_render.specs.Bodies.{inner}
 use Rattle.flight_state.specs.Local.{Seen}
@@ -39,3 +44,14 @@ tables_by (b ∷ bs) n = if is_above n.render b.address then take (suc (length n
 -- the first body is the task's own, and the others are those of server elements
 abbrev pub seen_of : List Body → Seen
 seen_of bodies = record { look = look bodies; ends = end_at (drop 1 bodies); tables = tables_by bodies }
+
+-- ---- a scene in which each name is found
+
+abbrev pub IsElementKeyed : Made → Type 0
+IsElementKeyed m = m.kind ≡ kind.Element → (tag key props : Tree) × (m.slots ≡ tag ∷ key ∷ props ∷ []) × IsKey key
+
+pub record IsScene (g : Ground) (bodies : List Body) : Type 0 where
+  pub ground : IsValidGround g
+  pub nodes : (n : Name) (m : Made) → look bodies n ≡ Some m → AllByRecursion (IsNamed g (look bodies)) m.slots × MadeWell g (look bodies) m.kind m.slots
+  pub keyed : (n : Name) (m : Made) → look bodies n ≡ Some m → IsElementKeyed m
+  pub ends : (n : Name) (t : Tree) → end_at (drop 1 bodies) n ≡ Some (gave t) → IsNamed g (look bodies) t

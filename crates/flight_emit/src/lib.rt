@@ -13,6 +13,7 @@ mod leaf;
 mod node;
 mod scene;
 mod take;
+mod value;
 mod work;
 
 pub use law::sheets_emit;

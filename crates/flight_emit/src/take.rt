@@ -36,7 +36,7 @@ pub fn copy_key(key: &Key) -> Result<Key, Memory>
 }
 
 /// An equal text.
-fn copy_text(text: &Text) -> Result<Text, Memory>
+pub fn copy_text(text: &Text) -> Result<Text, Memory>
     ensures { IfOk result (λ t. t ≡ text.now) }
 {
     Ok(text.clone()?)

@@ -1,18 +1,20 @@
 ghost use Rattle.std.specs.Prelude.{◌≡◌, ◌<◌, ◌^◌, ◌+◌, ◌∷◌, [], None, OnOk, IfOk};
 ghost use Rattle.flight_value.specs.declared.graph.Atom.TheVariants as atom;
-ghost use Rattle.flight_row.specs.declared.row.RowKind.TheVariants.{Text, Error};
+ghost use Rattle.flight_row.specs.declared.row.RowKind.TheVariants as row;
 ghost use Rattle.flight_home.specs.Homes.{Homes};
 ghost use Rattle.flight_meaning.specs.declared.place.Place.TheVariants as place;
 ghost use Rattle.flight_value.specs.Graph.{IsValidAtom};
 ghost use Rattle.flight_payload.specs.Written.{token_of, HasToken, IsWritableAtom};
-ghost use Rattle.flight_emit.specs.Sheet.{root};
+ghost use Rattle.json.specs.Token.{key};
+ghost use Rattle.flight_emit.specs.Sheet.{root, as_array, as_object, as_element};
+ghost use Rattle.flight_emit.specs.Wrote.{opens, closes};
 ghost use Rattle.flight_emit.specs.Log.{atom_row, entries_row, stage, Took, Put};
 
 use flight_payload::{PayloadWriter, error_row, text_row};
 use flight_render::What;
 use flight_row::Row;
 use flight_text::Ref;
-use flight_value::{Atom, Key, List, Memory};
+use flight_value::{Atom, Key, List, Memory, Text};
 use std::alloc::Global;
 
 /// A task that is born, with the id of its row.
@@ -70,7 +72,7 @@ impl Work {
     /// The row of a text that is too long to stand in another, by its id.
     pub fn add_text(&mut self, alloc: Global, text: &str) -> Result<u32, Memory>
         ensures id { IfOk result (λ id. (id ≡ self.old.next) × (id < 2 ^ 31)) }
-        ensures took { OnOk result ((homes : Homes) → Took (atom_row None Text (atom.Text text.now)) (stage homes self.old) (stage homes self.new)) }
+        ensures took { OnOk result ((homes : Homes) → Took (atom_row None row.Text (atom.Text text.now)) (stage homes self.old) (stage homes self.new)) }
     {
         let id = self.take_id()?;
         self.rows.push(text_row(alloc, id, text)?)?;
@@ -80,7 +82,7 @@ impl Work {
     /// The row of a failure, by its id.
     pub fn add_failure(&mut self, alloc: Global, digest: &str) -> Result<u32, Memory>
         ensures id { IfOk result (λ id. (id ≡ self.old.next) × (id < 2 ^ 31)) }
-        ensures took { OnOk result ((homes : Homes) → Took (atom_row None Error (atom.Failed digest.now)) (stage homes self.old) (stage homes self.new)) }
+        ensures took { OnOk result ((homes : Homes) → Took (atom_row None row.Error (atom.Failed digest.now)) (stage homes self.old) (stage homes self.new)) }
     {
         let id = self.take_id()?;
         self.rows.push(error_row(alloc, id, digest)?)?;
@@ -111,6 +113,48 @@ impl Work {
         ensures { OnOk result ((homes : Homes) → Put (token_of (place.Atom (atom.Text text.now)) ∷ []) (stage homes self.old) (stage homes self.new)) }
     {
         self.out.text(text)
+    }
+
+    /// Begins an array in the row.
+    pub fn begin_array(&mut self) -> Result<(), Memory>
+        ensures { OnOk result ((homes : Homes) → Put (opens as_array) (stage homes self.old) (stage homes self.new)) }
+    {
+        self.out.begin_array()
+    }
+
+    /// Ends an array or an element.
+    pub fn end_array(&mut self) -> Result<(), Memory>
+        ensures { OnOk result ((homes : Homes) → Put (closes as_array) (stage homes self.old) (stage homes self.new)) }
+    {
+        self.out.end_array()
+    }
+
+    /// Begins an object in the row.
+    pub fn begin_object(&mut self) -> Result<(), Memory>
+        ensures { OnOk result ((homes : Homes) → Put (opens as_object) (stage homes self.old) (stage homes self.new)) }
+    {
+        self.out.begin_object()
+    }
+
+    /// The name of the property that is written next.
+    pub fn put_name(&mut self, name: &Text) -> Result<(), Memory>
+        ensures { OnOk result ((homes : Homes) → Put (key name.now ∷ []) (stage homes self.old) (stage homes self.new)) }
+    {
+        self.out.name(name.as_str())
+    }
+
+    /// Ends an object.
+    pub fn end_object(&mut self) -> Result<(), Memory>
+        ensures { OnOk result ((homes : Homes) → Put (closes as_object) (stage homes self.old) (stage homes self.new)) }
+    {
+        self.out.end_object()
+    }
+
+    /// Begins an element in the row.
+    pub fn begin_element(&mut self) -> Result<(), Memory>
+        ensures { OnOk result ((homes : Homes) → Put (opens as_element) (stage homes self.old) (stage homes self.new)) }
+    {
+        self.out.begin_element()
     }
 
     /// Writes a reference to the value of a row, which may come later.
