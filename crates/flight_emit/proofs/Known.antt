@@ -1,6 +1,6 @@
 -- Values that are written as a reference to what has one home.
-use Rattle.std.proofs.Common.{◌≡◌, ◌≢◌, ℕ, zero, suc, ◌+◌, ◌<◌, ◌^◌, ◌⊎◌, inl, inr, List, [], ◌∷◌, ◌++◌, Option, Some, None, refl, sym, ap, ◌∙◌, subst, arith, append-nil}
-use Rattle.std.specs.List.{AllZip}
+use Rattle.std.proofs.Common.{◌≡◌, ◌≢◌, ℕ, zero, suc, ◌+◌, ◌<◌, ◌^◌, ◌⊎◌, inl, inr, List, [], ◌∷◌, ◌++◌, Option, Some, None, if◌then◌else◌, refl, sym, ap, ◌∙◌, subst, arith}
+use Rattle.std.specs.Prelude.{slice_get}
 use Rattle.flight_value.specs.Listed.{In}
 use Rattle.flight_value.specs.Store as store
 use Rattle.flight_value.specs.Store.{Shape}
@@ -18,21 +18,25 @@ use Rattle.flight_home.specs.Homes.{Homes, IsNew}
 use Rattle.flight_render.specs.declared.root.Ground.{Ground}
 use Rattle.flight_render.specs.declared.job.What.{What}
 use Rattle.flight_render.specs.declared.job.What.TheVariants as what
-use Rattle.flight_render.specs.Jobs.{Value, shown, of_job, outcome, element, target_of}
+use Rattle.flight_value.specs.declared.made.Tables.{Tables}
+use Rattle.flight_syntax.specs.declared.script.Flowing.{Flowing}
+use Rattle.flight_eval.specs.declared.body.Body.{Body}
+use Rattle.flight_emit.specs.Seen.{look, tables_by, seen_of, IsServerNode}
+use Rattle.flight_render.specs.Jobs.{is_server, Value, shown, of_job, outcome, element, target_of}
 use Rattle.flight_render.specs.Attempt.{job_for}
 use Rattle.flight_meaning.specs.declared.place.Place.{Place}
 use Rattle.flight_meaning.specs.declared.place.Place.TheVariants as place
 use Rattle.flight_payload.specs.Written.{token_of}
-use Rattle.flight_state.specs.State.{IsAlone}
+use Rattle.flight_state.specs.State.{stream_for, IsAlone, next_by, next_what}
 use Rattle.flight_state.specs.Local.{Seen, IsSeen, job_seen, shape_seen, IsAtomOf, Met, at_first, in_slot, MetBy, TablesHere, IsRowKey, RefersBy}
 use Rattle.flight_state.proofs.Lists.{in_behind}
 use Rattle.flight_emit.specs.Sheet.{root}
 use Rattle.flight_emit.specs.Good as good
 use Rattle.flight_emit.specs.Good.{IsNode, IsLeaf, IsPlainKind}
-use Rattle.flight_emit.specs.Log.{Taken, atom_row, task, Act, take, home_for, sheets_by, IsTaskFor, Stage, Took, Put, FitsTaken}
+use Rattle.flight_emit.specs.Log.{Taken, atom_row, task, stream_row, Act, take, home_for, sheets_by, IsTaskFor, Stage, Took, Put, FitsTaken}
 use Rattle.flight_emit.specs.declared.node.Sort.{Sort}
 use Rattle.flight_emit.specs.declared.node.Sort.TheVariants as sort
-use Rattle.flight_emit.specs.Nodes.{reference_place}
+use Rattle.flight_emit.specs.Nodes.{IsReady, reference_place}
 use Rattle.flight_emit.specs.Wrote.{WroteLeaf}
 use Rattle.flight_emit.proofs.Growing.{root_place}
 use Rattle.flight_emit.proofs.Leaves.{leaf_found, leaf_taken}
@@ -109,3 +113,44 @@ other_place sort.Map at a b = refl
 other_place sort.Set at a b = refl
 other_place sort.Server at a b = refl
 other_place sort.Stream at a b = refl
+
+-- ---- server elements by what a writer sees
+
+pub server_seen : (bodies : List Body) (n : Name) → IsServerNode (look bodies n) → IsSeen (seen_of bodies) (shown (tree.Made n))
+server_seen bodies n h = (h.0, h.1)
+
+pub server_job : (bodies : List Body) (n : Name) → IsServerNode (look bodies n) → job_seen (seen_of bodies) (shown (tree.Made n)) ≡ Some (element n)
+server_job bodies n h = ap (λ b. if b then Some (element n) else None) (ap is_server h.1 ∙ h.2)
+
+pub server_found : (g : Ground) (bodies : List Body) (n m : Name) (r : Ref) (s u : Stage) → m ≡ n → IsReady s → IsServerNode (look bodies n) → In (key.Server m, r) s.homes → Put (token_of (place.Lazy r.id) ∷ []) s u → WroteLeaf g (seen_of bodies) (shown (tree.Made n)) s u
+server_found g bodies n m r s u e ready server home put =
+    element_found g (seen_of bodies) (shown (tree.Made n)) n r s u (subst (λ z. In (key.Server z, r) s.homes) e home) (ready.0 (key.Server m) r home) (server_seen bodies n server) (server_job bodies n server) put
+
+pub server_taken : (g : Ground) (bodies : List Body) (n m : Name) (w : What) (id : ℕ) (s t u : Stage) → m ≡ n → (tables : Tables) → w ≡ what.Element n tables → tables.made ≡ tables_by bodies n → id ≡ s.next → Took (task (key.Server m) w) s t → IsNew (key.Server m) s.homes
+    → IsServerNode (look bodies n) → Put (token_of (place.Lazy id) ∷ []) t u → WroteLeaf g (seen_of bodies) (shown (tree.Made n)) s u
+server_taken g bodies n m w id s t u e tables is_what are_tables is_id took new server put =
+    element_taken g (seen_of bodies) (shown (tree.Made n)) n (what.Element n tables) id s t u is_id
+    (subst (λ z. Took (task (key.Server z) (what.Element n tables)) s t) e (subst (λ z. Took (task (key.Server m) z) s t) is_what took))
+    (subst (λ z. IsNew (key.Server z) s.homes) e new) (server_seen bodies n server) (server_job bodies n server) refl refl ((server.0, server.1, server.2), are_tables) put
+
+-- ---- streams
+
+next_stream : (stream : ℕ) (items : List ℕ) (n : ℕ) → stream_for (next_what stream items n) ≡ Some stream
+next_stream stream items n = go (slice_get items n)
+  where
+    go : (o : Option ℕ) → stream_for (next_by stream n o) ≡ Some stream
+    go None = refl
+    go (Some source) = refl
+
+pub stream_found : (g : Ground) (seen : Seen) (stream : ℕ) (r : Ref) (s u : Stage) → IsReady s → In (key.Stream stream, r) s.homes → Put (token_of (place.Value (root r.id)) ∷ []) s u → WroteLeaf g seen (shown (tree.Stream stream)) s u
+stream_found g seen stream r s u ready home put =
+    leaf_found g seen (shown (tree.Stream stream)) (place.Value (root r.id)) s u put (good.a_stream stream r refl home (inr refl)) (root_place r.id (let p = ready.0 (key.Stream stream) r home in p.small))
+
+pub stream_taken : (g : Ground) (seen : Seen) (stream : ℕ) (flows : Flowing) (id : ℕ) (s t u : Stage) → id ≡ s.next → slice_get g.script.streams stream ≡ Some flows → Took (stream_row stream flows) s t → IsNew (key.Stream stream) s.homes
+    → Put (token_of (place.Value (root id)) ∷ []) t u → WroteLeaf g seen (shown (tree.Stream stream)) s u
+stream_taken g seen stream flows id s t u is_id is_stream took new put =
+    leaf_taken g seen (shown (tree.Stream stream)) (stream_row stream flows) (place.Value (root s.next)) s t u took (new, tt)
+    (is_stream, (shown (tree.Stream stream), at_first, refl))
+    (subst (λ z. Put (token_of (place.Value (root z)) ∷ []) t u) is_id put)
+    (good.a_stream stream (root s.next) refl (home_there s t (stream_row stream flows) (key.Stream stream) took refl) (inr refl))
+    (root_place s.next (low_id s t (stream_row stream flows) took))

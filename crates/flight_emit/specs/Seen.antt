@@ -1,5 +1,5 @@
 -- What a writer sees by the bodies that finished.
-use Rattle.std.specs.Prelude.{ℕ, suc, ◌≡◌, Bool, List, [], ◌∷◌, ◌++◌, if◌then◌else◌, Option, Some, None, length, take, drop}
+use Rattle.std.specs.Prelude.{ℕ, suc, ◌≡◌, Bool, true, List, [], ◌∷◌, ◌++◌, if◌then◌else◌, Option, Some, None, length, take, drop}
 use Rattle.std.specs.List.{AllByRecursion}
 use Rattle.std.specs.Option.{option_or}
 use Rattle.std.specs.Str.{bytes_eq}
@@ -14,6 +14,7 @@ use Rattle.flight_render.specs.Run.{End, gave}
 use Rattle.flight_render.specs.Valid.{IsValidGround, IsNamed, MadeWell, IsKey}
 use Rattle.flight_render.specs.Values.{made_in}
 use Rattle.flight_render.specs.Bodies.{inner}
+use Rattle.flight_render.specs.Jobs.{is_server}
 use Rattle.flight_state.specs.Local.{Seen}
 
 -- the tables of a body, and the nodes that it made behind them
@@ -44,6 +45,10 @@ tables_by (b ∷ bs) n = if is_above n.render b.address then take (suc (length n
 -- the first body is the task's own, and the others are those of server elements
 abbrev pub seen_of : List Body → Seen
 seen_of bodies = record { look = look bodies; ends = end_at (drop 1 bodies); tables = tables_by bodies }
+
+-- a server element
+abbrev pub IsServerNode : Option Made → Type 0
+IsServerNode o = (m : Made) × (o ≡ Some m) × (is_server (Some m) ≡ true)
 
 -- ---- a scene in which each name is found
 

@@ -1,4 +1,8 @@
-ghost use Rattle.std.specs.Prelude.{◌∷◌, [], OnOk};
+ghost use Rattle.std.specs.Prelude.{◌≡◌, ◌<◌, ◌∷◌, [], OnOk, IfOk, IfSome, length};
+ghost use Rattle.flight_value.specs.declared.made.Tables.{Tables};
+ghost use Rattle.flight_render.specs.declared.job.What.TheVariants as what;
+ghost use Rattle.flight_render.specs.Plain.{action_name};
+ghost use Rattle.flight_emit.specs.Seen.{look, seen_of, tables_by, IsServerNode};
 ghost use Rattle.flight_value.specs.Graph.{IsValidAtom};
 ghost use Rattle.flight_payload.specs.Written.{token_of, HasToken};
 ghost use Rattle.flight_emit.specs.Nodes.{IsReady, reference_place};
@@ -12,12 +16,14 @@ ghost use Rattle.flight_emit.specs.Log.{stage, Extends, Put};
 ghost use Rattle.flight_emit.specs.Wrote.{WroteLeaf};
 
 use crate::node::Sort;
-use crate::take::{copy_text, take_symbol, take_task};
+use crate::scene::{Scene, tables_by};
+use crate::take::{copy_name, copy_text, take_stream, take_symbol, take_task};
 use crate::work::Work;
 use flight_home::Home;
-use flight_render::What;
+use flight_render::{Ground, What};
+use flight_syntax::Declared;
 use flight_text::Ref;
-use flight_value::{Atom, Key, Memory, Text};
+use flight_value::{Atom, Key, Memory, Name, Text};
 use std::alloc::Global;
 
 /// A text of so many bytes has a row of its own (React 19.0, `renderModelDestructive` of ReactFlightServer).
@@ -88,4 +94,56 @@ pub fn write_failure(alloc: Global, work: &mut Work, digest: &Text) -> Result<()
 {
     let id = work.add_failure(alloc, digest.as_str())?;
     work.put_lazy(id)
+}
+
+/// What the task of a server element is for.
+fn element_task(scene: &Scene, name: &Name) -> Result<What, Memory>
+    ensures { IfOk result (λ w. (tables : Tables) × (w ≡ what.Element name.now tables) × (tables.made ≡ tables_by scene.now.bodies.now name.now)) }
+{
+    Ok(What::Element {
+        element: copy_name(name)?,
+        tables: tables_by(scene.alloc, scene.bodies, name)?,
+    })
+}
+
+/// Writes a server element, by the row of its task, which is born where the element is met first.
+pub fn write_element(scene: &Scene, home: &mut Home, work: &mut Work, name: &Name) -> Result<(), Memory>
+    requires ready { IsReady (stage home.old work.old) }
+    requires server { IsServerNode (look scene.now.bodies.now name.now) }
+    ensures extends { Extends home.old home.new }
+    ensures wrote { OnOk result ((g : Ground) → WroteLeaf g (seen_of scene.now.bodies.now) (shown (tree.Made name.now)) (stage home.old work.old) (stage home.new work.new)) }
+{
+    let key = Key::Server(copy_name(name)?);
+    if let Some(at) = home.get(&key) {
+        return work.put_lazy(at.id);
+    }
+    let what = element_task(scene, name)?;
+    let id = take_task(scene.alloc, home, work, key, what)?;
+    work.put_lazy(id)
+}
+
+/// Writes a stream, by the row that opens it.
+pub fn write_stream(scene: &Scene, home: &mut Home, work: &mut Work, stream: u32) -> Result<(), Memory>
+    requires ready { IsReady (stage home.old work.old) }
+    requires known { stream < length scene.now.ground.now.script.streams }
+    ensures extends { Extends home.old home.new }
+    ensures wrote { OnOk result ((seen : Seen) → WroteLeaf scene.now.ground.now seen (shown (tree.Stream stream)) (stage home.old work.old) (stage home.new work.new)) }
+{
+    let key = Key::Stream { stream };
+    if let Some(at) = home.get(&key) {
+        return work.put_whole(scene.alloc, at.id);
+    }
+    let flowing = &scene.ground.script.streams.as_slice()[stream as usize];
+    let id = take_stream(scene.alloc, home, work, stream, flowing)?;
+    work.put_whole(scene.alloc, id)
+}
+
+/// What a server reference is called.
+fn action_name(ground: &Ground, action: u32) -> Option<&Text>
+    ensures { IfSome result (λ name. name.now ≡ action_name ground.now action) }
+{
+    match ground.program.declared.as_slice().get(action as usize) {
+        Some(Declared::Action { name, .. }) => Some(name),
+        _ => None,
+    }
 }

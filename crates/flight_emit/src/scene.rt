@@ -1,7 +1,7 @@
-ghost use Rattle.std.specs.Prelude.{◌≡◌, option_and_then, slice_get, length};
+ghost use Rattle.std.specs.Prelude.{◌≡◌, IfOk, suc, length, option_and_then, slice_get, take};
 ghost use Rattle.std.specs.Option.{option_copied};
 ghost use Rattle.flight_render.specs.Values.{outcomes, node_in, made_in};
-ghost use Rattle.flight_emit.specs.Seen.{node_by, look, end_at, tables_to};
+ghost use Rattle.flight_emit.specs.Seen.{is_above, node_by, look, tables_to, tables_by};
 
 use flight_eval::{Body, Gave};
 use flight_render::{Ground, Root};
@@ -32,15 +32,23 @@ fn node_of<'a>(body: &'a Body, name: &Name) -> Option<&'a Made>
     }
 }
 
+/// Whether a node stands at the address of a body or above it.
+fn is_above(name: &Name, body: &Body) -> bool
+    ensures { result ≡ is_above name.now.render body.now.address }
+{
+    let address = body.address.get().as_slice();
+    address.starts_with(name.render.get().as_slice())
+}
+
 /// The node of a name that stands at the address of a body or above it.
 fn node_by<'a>(body: &'a Body, name: &Name) -> Option<&'a Made>
     ensures { option_copied result ≡ node_by body.now name.now }
 {
-    let address = body.address.get().as_slice();
-    if !address.starts_with(name.render.get().as_slice()) {
-        return None;
+    if is_above(name, body) {
+        node_of(body, name)
+    } else {
+        None
     }
-    node_of(body, name)
 }
 
 /// The node of a name that one of the bodies made, or met. It calls itself once for each body, of which an attempt has 17
@@ -55,6 +63,66 @@ pub fn look<'a>(bodies: &'a [Body], name: &Name) -> Option<&'a Made>
             None => look(others, name),
         },
     }
+}
+
+/// The lists of the tables of a body up to an index, the list that it made itself after them.
+fn front_tables(alloc: Global, body: &Body, last: usize) -> Result<Vec<Shared<List<Made>>>, Memory>
+    ensures { IfOk result (λ lists. lists.items ≡ take (suc last) (tables_to body.now)) }
+{
+    let tables = body.tables.get().made.as_slice();
+    if last < tables.len() {
+        return share_all(alloc, &tables[..last + 1]);
+    }
+    let mut lists = share_all(alloc, tables)?;
+    lists.push(body.made.share()?)?;
+    Ok(lists)
+}
+
+/// Each of these lists, with one more owner.
+fn share_all(alloc: Global, lists: &[Shared<List<Made>>]) -> Result<Vec<Shared<List<Made>>>, Memory>
+    ensures { IfOk result (λ shared. shared.items ≡ lists.now) }
+{
+    let mut shared = Vec::new(alloc);
+    for list in lists {
+        shared.push(list.share()?)?;
+    }
+    Ok(shared)
+}
+
+/// The tables of a server element: what the bodies down to its node made.
+pub fn tables_by(alloc: Global, bodies: &[Body], name: &Name) -> Result<Shared<Tables>, Memory>
+    ensures { IfOk result (λ tables. tables.made ≡ tables_by bodies.now name.now) }
+{
+    match bodies {
+        [] => tables_with(alloc, Vec::new(alloc)),
+        [body, others @ ..] => {
+            if is_above(name, body) {
+                body_tables(alloc, body, name)
+            } else {
+                tables_by(alloc, others, name)
+            }
+        }
+    }
+}
+
+/// The tables of a server element that stands at the address of a body or above it.
+fn body_tables(alloc: Global, body: &Body, name: &Name) -> Result<Shared<Tables>, Memory>
+    ensures { IfOk result (λ tables. tables.made ≡ take (suc (length name.now.render)) (tables_to body.now)) }
+{
+    let count = name.render.get().as_slice().len();
+    tables_with(alloc, front_tables(alloc, body, count)?)
+}
+
+/// Tables of these lists.
+fn tables_with(alloc: Global, lists: Vec<Shared<List<Made>>>) -> Result<Shared<Tables>, Memory>
+    ensures { IfOk result (λ tables. tables.made ≡ lists.items) }
+{
+    Shared::new(
+        alloc,
+        Tables {
+            made: List::new(lists),
+        },
+    )
 }
 
 /// A node of a source's value, or of the arguments, which stand as one more source.

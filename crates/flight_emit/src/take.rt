@@ -5,14 +5,17 @@ ghost use Rattle.flight_row.specs.declared.row.RowKind.TheVariants.{Model, Impor
 ghost use Rattle.flight_home.specs.Homes.{IsNew};
 ghost use Rattle.flight_value.specs.Graph.{IsValidAtom};
 ghost use Rattle.flight_payload.specs.Written.{HasToken};
-ghost use Rattle.flight_payload.specs.Rows.{IsModule, IsRow, HasAtom};
-ghost use Rattle.flight_emit.specs.Log.{atom_row, value_row, task, stage, Took, Extends};
+ghost use Rattle.flight_payload.specs.Rows.{IsModule, IsRow, HasAtom, IsBelow, bound_place};
+ghost use Rattle.flight_render.specs.Jobs.{Value};
+ghost use Rattle.flight_state.specs.State.{next_what};
+ghost use Rattle.flight_emit.specs.Log.{atom_row, value_row, task, stream_row, reference_row, stage, Took, Extends};
 
 use crate::work::{Born, Due, Work, whole_row};
 use flight_home::Home;
-use flight_payload::{PayloadWriter, import_row};
+use flight_payload::{PayloadWriter, action_row, import_row, open_row};
 use flight_render::What;
 use flight_row::Row;
+use flight_syntax::Flowing;
 use flight_value::{Atom, Key, Memory, Name, Text};
 use std::alloc::Global;
 
@@ -127,5 +130,46 @@ pub fn take_import(alloc: Global, home: &mut Home, work: &mut Work, client: u32,
     let id = work.take_id()?;
     work.rows.push(import_row(alloc, id, import.as_str())?)?;
     home.put(Key::Client { client }, whole_row(alloc, id))?;
+    Ok(id)
+}
+
+/// What the first task of a stream is for.
+fn first_of(stream: u32, flowing: &Flowing) -> What
+    ensures { result ≡ next_what stream flowing.now.items 0 }
+{
+    match flowing.items.as_slice().first() {
+        Some(_) => What::Item { stream, index: 0 },
+        None => What::Last { stream },
+    }
+}
+
+/// The id of the row that opens a stream, as its home. The task of what comes first of it is born.
+pub fn take_stream(alloc: Global, home: &mut Home, work: &mut Work, stream: u32, flowing: &Flowing) -> Result<u32, Memory>
+    requires absent { IsNew (key.Stream stream) home.old }
+    ensures extends { Extends home.old home.new }
+    ensures id { IfOk result (λ id. (id ≡ work.old.next) × (id < 2 ^ 31)) }
+    ensures took { OnOk result (Took (stream_row stream flowing.now) (stage home.old work.old) (stage home.new work.new)) }
+{
+    let id = work.take_id()?;
+    work.rows.push(open_row(alloc, id, flowing.flow))?;
+    work.born.push(Born {
+        id,
+        what: first_of(stream, flowing),
+    })?;
+    home.put(Key::Stream { stream }, whole_row(alloc, id))?;
+    Ok(id)
+}
+
+/// The id of the row of a server reference, as its home: its name, and by its row the promise of what is bound to it.
+pub fn take_reference(alloc: Global, home: &mut Home, work: &mut Work, key: Key, name: &Text, bound: Option<u32>) -> Result<u32, Memory>
+    requires absent { IsNew key home.old }
+    requires bound { IsBelow bound }
+    ensures extends { Extends home.old home.new }
+    ensures id { IfOk result (λ id. (id ≡ work.old.next) × (id < 2 ^ 31)) }
+    ensures took { OnOk result ((v : Value) → Took (reference_row key name.now v (bound_place bound)) (stage home.old work.old) (stage home.new work.new)) }
+{
+    let id = work.take_id()?;
+    work.rows.push(action_row(alloc, id, name.as_str(), bound)?)?;
+    home.put(key, whole_row(alloc, id))?;
     Ok(id)
 }
