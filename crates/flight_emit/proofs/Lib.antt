@@ -9,3 +9,4 @@ pub mod Leaves
 pub mod PartsOn
 pub mod Composites
 pub mod Known
+pub mod Slots

@@ -53,3 +53,4 @@ pub fn target_of<'a>(item: Item<'a>) -> Result<Target<'a>, Memory>
         },
     })
 }
+
