@@ -10,3 +10,4 @@ pub mod PartsOn
 pub mod Composites
 pub mod Known
 pub mod Slots
+pub mod Finishing

@@ -6,3 +6,4 @@ pub mod Wrote
 pub mod Seen
 pub mod Nodes
 pub mod At
+pub mod Finished

@@ -137,6 +137,7 @@ pub record IsMetNode (g : Ground) (seen : Seen) (v : Value) (k : Key) : Type 0 w
 -- the task of a server element, or of what a promise holds
 abbrev pub IsTaskFor : Ground → Seen → Key → What → Type 0
 IsTaskFor g seen (key.Server n) w = job_for g w ≡ element n
+IsTaskFor g seen (key.Stream stream) w = ⊥
 IsTaskFor g seen k w = (v : Value) × HasOneSlot g seen k store.promise v × IsSeen seen v × (job_seen seen v ≡ Some (job_for g w))
 
 abbrev pub IsAtomHome : Ground → Option Key → Atom → Type 0
