@@ -11,3 +11,4 @@ pub mod Composites
 pub mod Known
 pub mod Slots
 pub mod Finishing
+pub mod Whole
