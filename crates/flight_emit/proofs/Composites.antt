@@ -1,31 +1,26 @@
 -- A composite that is written at its home, and a value that is given in its place.
-use Rattle.std.proofs.Common.{◌≡◌, ◌≢◌, ℕ, zero, suc, ◌+◌, ◌≤◌, ◌⊎◌, inl, inr, ⊎_elim, List, [], ◌∷◌, ◌++◌, map, max, codes, Option, Some, None, refl, sym, ap, ap₂, ◌∙◌, subst, arith, append_assoc, append-nil}
+use Rattle.std.proofs.Common.{◌≡◌, ℕ, suc, ◌≤◌, inl, inr, ⊎_elim, List, [], ◌∷◌, ◌++◌, Some, None, refl, sym, ap, ◌∙◌, subst, arith, append_assoc, append-nil}
 use Rattle.std.proofs.lemmas.Option.{none-some, same_Some}
 use Rattle.json.specs.Token.{Token}
 use Rattle.json.specs.Token as token
 use Rattle.flight_value.specs.Graph.{Ascend}
 use Rattle.flight_value.specs.Listed.{In}
-use Rattle.flight_value.specs.declared.graph.Atom.{Atom}
 use Rattle.flight_value.specs.declared.key.Key.{Key}
 use Rattle.flight_text.specs.declared.mark.Ref.{Ref}
 use Rattle.flight_text.specs.Mark.{IsPlace}
 use Rattle.flight_home.specs.Homes.{Homes, IsNew}
 use Rattle.flight_render.specs.declared.root.Ground.{Ground}
 use Rattle.flight_render.specs.Jobs.{Value}
-use Rattle.flight_meaning.specs.declared.place.Place.{Place}
 use Rattle.flight_meaning.specs.Meaning.{Token as Kind, token_label}
-use Rattle.flight_meaning.specs.declared.place.Place.TheVariants as place
-use Rattle.flight_payload.specs.Tree.{Tree, single, array, object, element, trees_of, names, depth, tree_depth, prop_depth}
+use Rattle.flight_payload.specs.Tree.{single, trees_of, names, depth, tree_depth, prop_depth}
 use Rattle.flight_payload.specs.Written.{token_of, tokens_of, tree_tokens, prop_tokens, mark_token, IsKey, IsWritable, AreWritable, HaveWritable}
-use Rattle.flight_state.specs.Local.{Seen, Met, at_first, shape_seen}
-use Rattle.flight_state.proofs.Lists.{in_front, in_behind, in_either}
-use Rattle.flight_emit.specs.declared.work.Due.{Due}
+use Rattle.flight_state.specs.Local.{Seen, Met, shape_seen}
 use Rattle.flight_emit.specs.declared.work.Due.TheVariants as due
-use Rattle.flight_emit.specs.Sheet.{Note, Form, as_array, as_object, as_element, Drawn, leaf, token as is_token, composite, Parts, no_parts, part_and, names_in, values_in, tree_of, trees_in, props_with, composed, value_at, label_of, token_place, below, homes_in, homes_of, Sheet}
-use Rattle.flight_emit.specs.Good.{Gives, itself, in_place, IsNode, IsLeaf, IsHomeOf, IsHome, IsMeant, HasNames, Entries, IsGood, AreGood}
-use Rattle.flight_emit.specs.Log.{Taken, entries_row, Act, put, take, value_of_key, IsMetNode, Took, takes, homes_by, places_by, sheets_by, births_by, dues_by, AreNew, HasSheet, Stage, Grows}
-use Rattle.flight_emit.specs.Wrote.{WroteLeaf, AreDue, Wrote, part_tokens, tokens_in, AllWritable, AllWithin, WroteParts, opens, closes, note_at, WroteNode}
-use Rattle.flight_emit.proofs.Growing.{Keeps, grows_none, grows_took, grows_more, grows_put, grows_out, grows_on}
+use Rattle.flight_emit.specs.Sheet.{Note, Form, as_array, as_object, as_element, Drawn, leaf, token as is_token, composite, Parts, no_parts, part_and, names_in, tree_of, trees_in, props_with, composed, value_at, label_of, token_place, homes_in, Sheet}
+use Rattle.flight_emit.specs.Good.{Gives, itself, in_place, IsNode, HasNames, Entries, IsGood}
+use Rattle.flight_emit.specs.Log.{entries_row, put, take, value_of_key, IsMetNode, Took, homes_by, sheets_by, dues_by, Stage}
+use Rattle.flight_emit.specs.Wrote.{WroteLeaf, AreDue, Wrote, tokens_in, AllWritable, AllWithin, WroteParts, opens, closes, note_at, WroteNode, element_parts, IsReadableForm}
+use Rattle.flight_emit.proofs.Growing.{grows_none, grows_took, grows_more, grows_put, grows_out, grows_on}
 use Rattle.flight_emit.proofs.PartsOn.{goods_more, good_more}
 
 -- ---- tokens
@@ -37,16 +32,6 @@ array_tokens (part_and name d rest) = ap (λ z. tokens_of (tree_of d) ++ z) (arr
 object_tokens : (ps : Parts) → prop_tokens (props_with (names_in ps) (trees_in ps)) ≡ tokens_in as_object ps
 object_tokens no_parts = refl
 object_tokens (part_and name d rest) = ap (λ z. token.key name ∷ (tokens_of (tree_of d) ++ z)) (object_tokens rest)
-
--- three parts have the names of an element's
-pub record Three (ps : Parts) : Type 0 where
-  pub tag : Drawn
-  pub key : Drawn
-  pub props : Drawn
-  pub are : ps ≡ part_and (codes "type") tag (part_and (codes "key") key (part_and (codes "props") props no_parts))
-
-abbrev element_parts : Drawn → Drawn → Drawn → Parts
-element_parts tag key props = part_and (codes "type") tag (part_and (codes "key") key (part_and (codes "props") props no_parts))
 
 element_tokens : (tag key props : Drawn) → tokens_of (composed as_element (names_in (element_parts tag key props)) (trees_in (element_parts tag key props))) ≡ opens as_element ++ (tokens_in as_element (element_parts tag key props) ++ closes as_element)
 element_tokens tag key props =
@@ -79,12 +64,6 @@ props_writable (part_and name d rest) h = (h.0, props_writable rest h.1)
 props_named : (ps : Parts) → names (props_with (names_in ps) (trees_in ps)) ≡ names_in ps
 props_named no_parts = refl
 props_named (part_and name d rest) = ap (λ z. name ∷ z) (props_named rest)
-
--- what a form needs to be read again
-abbrev pub IsReadableForm : Form → Parts → Type 0
-IsReadableForm as_array ps = Unit {0}
-IsReadableForm as_object ps = Ascend (names_in ps)
-IsReadableForm as_element ps = (tag : Drawn) × (key : Drawn) × (props : Drawn) × (ps ≡ element_parts tag key props) × IsKey (tree_of key)
 
 -- ---- a composite as a tree
 
@@ -181,21 +160,21 @@ composite_node g seen k r form names values levels s b c u begun w ended node sh
 -- the token of a Map or of a Set
 pub token_node : (g : Ground) (seen : Seen) (k : Key) (r : Ref) (kind : Kind) (levels : ℕ) (slots : List Value) (s t u : Stage)
     → Took (entries_row k) s t → u ≡ record t { out = t.out ++ token_of (token_place kind s.next) ∷ [] } → IsMetNode g seen (value_of_key k) k
-    → shape_seen g seen k ≡ Some (record { label = token_label kind; slots = slots }) → IsWritable (single (token_place kind s.next)) → tree_of (is_token (record { value = value_of_key k; key = k }) kind s.next) ≡ single (token_place kind s.next)
+    → shape_seen g seen k ≡ Some (record { label = token_label kind; slots = slots }) → IsWritable (single (token_place kind s.next))
     → WroteNode g seen k r levels s u
-token_node g seen k r kind levels slots s t u took ended met shape writable same =
+token_node g seen k r kind levels slots s t u took ended met shape writable =
     let v = value_of_key k in
     let grown = grows_took g seen v (entries_row k) s t took tt met in
     record {
       acts = take (entries_row k) ∷ [];
       drawn = is_token (record { value = v; key = k }) kind s.next;
       grows = grows_out g seen v (take (entries_row k) ∷ []) s t u grown (ended ∙ ap (λ z. record t { out = z }) (sym (ap (λ z. z.out) ended)));
-      tokens = ap (λ z. z.out) ended ∙ (ap (λ z. z ++ token_of (token_place kind s.next) ∷ []) took.out ∙ ap (λ z. s.out ++ tokens_of z) (sym same));
+      tokens = ap (λ z. z.out) ended ∙ ap (λ z. z ++ token_of (token_place kind s.next) ∷ []) took.out;
       is_note = refl;
       good = (((v, itself, met.node), inl refl), (inl refl, (slots, shape)));
       placed = λ x h i. absurd i;
-      writable = subst IsWritable (sym same) writable;
-      shallow = subst (λ z. depth z ≤ levels) (sym same) (omega arith);
+      writable = writable;
+      shallow = omega arith;
     }
 
 -- a node whose home is put first
@@ -211,11 +190,11 @@ node_put g seen k r levels s a u is_place homed new w =
       tokens = w.tokens ∙ ap (λ z. z ++ tokens_of (tree_of w.drawn)) (ap (λ z. z.out) homed);
       is_value = note_value w.drawn (record { value = v; key = k }) w.is_note;
       good = good_more g seen u.homes u.homes ((k, r) ∷ homes_by a.next w.acts) ((k, r) ∷ homes_by s.next w.acts) (sheets_by a.next w.acts) (sheets_by s.next w.acts)
-            (AreDue g seen (dues_by a.next w.acts)) (AreDue g seen (dues_by s.next w.acts)) r w.drawn
-            (λ x i. i)
-            (λ x i. subst (λ n. In x ((k, r) ∷ homes_by n w.acts)) id i)
-            (λ x i. subst (λ n. In x (sheets_by n w.acts)) id i)
-            (λ x kind n h. (subst (λ m. In (due.Entries n x) (dues_by m w.acts)) id h.0, h.1)) w.good;
+          (AreDue g seen (dues_by a.next w.acts)) (AreDue g seen (dues_by s.next w.acts)) r w.drawn
+          (λ x i. i)
+          (λ x i. subst (λ n. In x ((k, r) ∷ homes_by n w.acts)) id i)
+          (λ x i. subst (λ n. In x (sheets_by n w.acts)) id i)
+          (λ x kind n h. (subst (λ m. In (due.Entries n x) (dues_by m w.acts)) id h.0, h.1)) w.good;
       placed = λ x h i. ⊎_elim (λ e. note_home r w.drawn (record { value = v; key = k }) x h w.is_note e) (λ j. w.placed x h j) i;
       writable = w.writable;
       shallow = w.shallow;

@@ -1,10 +1,9 @@
 -- What is on paper is what a writer owes.
-use Rattle.std.proofs.Common.{◌≡◌, ◌≢◌, ℕ, zero, suc, ◌+◌, ◌<◌, ◌≤◌, Bool, true, false, ◌⊎◌, inl, inr, ⊎_elim, List, [], ◌∷◌, ◌++◌, map, length, codes, Option, Some, None, option_and_then, refl, sym, ap, ap₂, ◌∙◌, subst, arith}
+use Rattle.std.proofs.Common.{◌≡◌, ◌≢◌, ℕ, ◌+◌, ◌≤◌, ◌⊎◌, inl, inr, ⊎_elim, List, [], ◌∷◌, ◌++◌, length, Option, Some, None, option_and_then, refl, sym, ap, ap₂, ◌∙◌, subst, arith}
 use Rattle.std.proofs.lemmas.Option.{none-some, same_Some}
 use Rattle.std.proofs.lemmas.Bool.{false≢true}
 use Rattle.std.specs.Prelude.{slice_get}
-use Rattle.std.specs.List.{AllZip}
-use Rattle.flight_value.specs.Listed.{In, Distinct}
+use Rattle.flight_value.specs.Listed.{In}
 use Rattle.flight_value.specs.Store as store
 use Rattle.flight_value.specs.Store.{Label, Shape}
 use Rattle.flight_value.specs.declared.graph.Atom.TheVariants as atom
@@ -20,26 +19,24 @@ use Rattle.flight_render.specs.Values.{import_at}
 use Rattle.flight_render.specs.Jobs.{Value}
 use Rattle.flight_render.specs.Laws.{IsLasting}
 use Rattle.flight_meaning.specs.declared.place.Place.{Place}
-use Rattle.flight_meaning.specs.declared.place.Place.TheVariants as place
 use Rattle.flight_meaning.specs.declared.place.PlaceTree.{PlaceTree}
-use Rattle.flight_meaning.specs.Linked.{rows_of, Spot, place_at, first_place}
-use Rattle.flight_meaning.specs.Resolve.{to, found, Ends}
+use Rattle.flight_meaning.specs.Linked.{rows_of, Spot, place_at}
+use Rattle.flight_meaning.specs.Resolve.{to, found}
 use Rattle.flight_meaning.specs.Meaning as wire
 use Rattle.flight_meaning.specs.Meaning.{at_place, Identity, made_at, promise_of, stream_of, action_of, reference_with, reference_by, reference_of, reference_in, bound_at, action_shape}
 use Rattle.flight_meaning.proofs.Walking.{one_end}
 use Rattle.flight_payload.proofs.Standing.{each_place}
-use Rattle.flight_state.specs.State.{stream_for, IsAlone}
+use Rattle.flight_state.specs.State.{IsAlone}
 use Rattle.flight_state.specs.Emits.{IsPlain}
 use Rattle.flight_state.specs.Local as local
 use Rattle.flight_state.specs.Local.{Seen, shape_seen, Births, Names, NodeHere, StreamHere, TaskHere, HomeHere, IsFresh, IsNewHome, IsOnce, IsRowKey, id_of, IsOwnRow, AddsHere, EmitsHere, WrittenHere}
-use Rattle.flight_state.proofs.Lists.{in_map}
-use Rattle.flight_emit.specs.Sheet.{Drawn, leaf, composite, as_object, reference_parts, tree_of, value_at, Sheet, filled, opening, id_on, homes_on, row_of, rows_on, spot, meant_of}
+use Rattle.flight_emit.specs.Sheet.{composite, as_object, reference_parts, tree_of, Sheet, filled, opening, id_on, homes_on, row_of, rows_on, spot, meant_of}
 use Rattle.flight_emit.specs.Good.{Gives, IsPlainKind}
 use Rattle.flight_emit.specs.Whole as whole
 use Rattle.flight_emit.specs.Whole.{Use, ids_from, IsBoundPlace, HasNodeHome, HasHome, HasStream, HasOwnId, OnPaper}
 use Rattle.flight_emit.proofs.Rows.{row_there, rows_by, Placed, place_back, id_fresh, one_use}
-use Rattle.flight_emit.proofs.Sits.{Paper, homes, rows, meant, Filled, places, sheet_sits, find_meant, find_home, value_first}
-use Rattle.flight_emit.proofs.Homes.{only_row, spot_place, value_row, atom_row, IsPlaceLabel, IsNamedPlace, names_place, place_names, names_node, node_names, HomeThere, home_there, IsWrittenAt, value_written, plain_kind}
+use Rattle.flight_emit.proofs.Sits.{Paper, homes, rows, meant, Filled, sheet_sits, find_meant, find_home, value_first}
+use Rattle.flight_emit.proofs.Homes.{only_row, spot_place, value_row, atom_row, names_place, place_names, names_node, node_names, HomeThere, home_there, value_written, plain_kind}
 use Rattle.flight_emit.proofs.Once.{one_node, MeantAt, meant_at, one_meant, IsPlainOrMeant, each_drawn}
 
 -- ---- homes

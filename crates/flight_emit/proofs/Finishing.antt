@@ -1,46 +1,19 @@
 -- Acts whose rows are all written are on paper.
-use Rattle.std.proofs.Common.{◌≡◌, ◌≢◌, ℕ, zero, suc, ◌+◌, ◌<◌, ◌≤◌, Bool, true, false, ◌⊎◌, inl, inr, ⊎_elim, List, [], ◌∷◌, ◌++◌, map, length, codes, Option, Some, None, option_map, refl, sym, ap, ap₂, ◌∙◌, subst, arith, append_assoc, append-nil}
-use Rattle.std.proofs.lemmas.Option.{none-some, same_Some}
-use Rattle.std.specs.Prelude.{slice_get}
-use Rattle.flight_value.specs.Listed.{In, Distinct}
-use Rattle.flight_value.specs.Store as store
-use Rattle.flight_value.specs.Store.{Label, Shape, Target}
-use Rattle.flight_value.specs.declared.graph.Atom.{Atom}
-use Rattle.flight_value.specs.declared.graph.Atom.TheVariants as atom
+use Rattle.std.proofs.Common.{◌≡◌, ℕ, suc, ◌⊎◌, inl, inr, ⊎_elim, List, [], ◌∷◌, ◌++◌, length, refl, sym, ap, ◌∙◌, subst, arith}
+use Rattle.flight_value.specs.Listed.{In}
 use Rattle.flight_value.specs.declared.key.Key.{Key}
-use Rattle.flight_value.specs.declared.key.Key.TheVariants as key
-use Rattle.flight_value.specs.declared.made.Tree.{Tree}
-use Rattle.flight_value.specs.declared.made.Tree.TheVariants as tree
-use Rattle.flight_syntax.specs.declared.script.Flowing.{Flowing}
 use Rattle.flight_text.specs.declared.mark.Ref.{Ref}
-use Rattle.flight_row.specs.declared.row.RowKind.{RowKind}
-use Rattle.flight_row.specs.declared.row.RowKind.TheVariants as row
 use Rattle.flight_home.specs.Homes.{Homes, IsNew}
 use Rattle.flight_render.specs.declared.root.Ground.{Ground}
 use Rattle.flight_render.specs.declared.job.What.{What}
-use Rattle.flight_render.specs.declared.job.What.TheVariants as what
-use Rattle.flight_render.specs.Jobs.{Value, shown, failed, stopped, of_job, target_of}
-use Rattle.flight_render.specs.Plain.{flow_shape}
-use Rattle.flight_render.specs.Attempt.{job_for}
-use Rattle.flight_render.specs.Laws.{IsLasting}
-use Rattle.flight_meaning.specs.declared.place.Place.{Place}
-use Rattle.flight_meaning.specs.declared.place.Place.TheVariants as place
-use Rattle.flight_meaning.specs.Meaning.{Token, map_token, set_token, token_label}
-use Rattle.flight_state.specs.State.{stream_for, IsAlone, next_by, next_what}
-use Rattle.flight_state.specs.Local.{Seen, shape_seen, MetBy, TablesHere, IsRowKey}
+use Rattle.flight_render.specs.Jobs.{Value}
+use Rattle.flight_state.specs.Local.{Seen}
 use Rattle.flight_state.proofs.Lists.{in_front, in_behind, in_either}
 use Rattle.flight_emit.specs.declared.work.Due.{Due}
-use Rattle.flight_emit.specs.declared.work.Due.TheVariants as due
-use Rattle.flight_emit.specs.Sheet.{Note, Form, as_array, as_object, as_element, Drawn, leaf, token as is_token, composite, Parts, no_parts, part_and, names_in, value_at, values_in, values_of, label_of, reference_parts, below, home_of, homes_in, homes_of, Sheet, filled, opening, id_on, homes_on, root}
-use Rattle.flight_emit.specs.Good.{Gives, IsNode, IsHomeOf, HasShape, HasEntries, IsHome, Entries, IsGood, AreGood, IsPlainKind, IsGoodSheet, HasAtomRow}
-use Rattle.flight_emit.specs.Whole as whole
-use Rattle.flight_emit.specs.Whole.{Use, ids_from, HasOneSlot, HasNodeHome, HasHome, HasStream, HasOwnId, OnPaper}
-use Rattle.flight_emit.specs.Log.{Taken, atom_row, value_row, entries_row, task, stream_row, reference_row, Act, put, take, takes, home_for, sheet_for, birth_for, due_for, homes_by, places_by, sheets_by, births_by, dues_by, value_of_key, IsTaskFor, FitsTaken, FitActs, AreNew}
-use Rattle.flight_emit.specs.Wrote.{AreDue, note_at}
-use Rattle.flight_emit.specs.Finished.{use_of, uses_of, due_id, IsDone, IsDrafted, Finished}
-use Rattle.flight_emit.proofs.Growing.{leaf_more}
-use Rattle.flight_emit.proofs.PartsOn.{good_more}
-use Rattle.flight_emit.proofs.Homes.{IsPlaceLabel, form_label, token_named}
+use Rattle.flight_emit.specs.Sheet.{Sheet}
+use Rattle.flight_emit.specs.Whole.{ids_from}
+use Rattle.flight_emit.specs.Log.{Taken, Act, put, take, takes, home_for, sheet_for, birth_for, due_for, homes_by, places_by, sheets_by, births_by, dues_by, FitsTaken, FitActs, AreNew}
+use Rattle.flight_emit.specs.Finished.{use_of, uses_of}
 
 -- ---- ids
 

@@ -1,24 +1,21 @@
 -- What acts add, one after another.
-use Rattle.std.proofs.Common.{◌≡◌, ◌≢◌, ℕ, zero, suc, ◌+◌, ◌^◌, ◌<◌, ◌≤◌, ◌⊎◌, inl, inr, ⊎_elim, List, [], ◌∷◌, ◌++◌, map, Option, Some, None, refl, sym, ap, ap₂, ◌∙◌, subst, arith, append_assoc, append-nil}
+use Rattle.std.proofs.Common.{◌≡◌, ℕ, suc, ◌+◌, ◌^◌, ◌<◌, ◌≤◌, inl, inr, ⊎_elim, List, [], ◌∷◌, ◌++◌, Option, Some, None, refl, sym, ap, ◌∙◌, subst, arith, append_assoc, append-nil}
 use Rattle.std.specs.List.{AllZip}
 use Rattle.std.proofs.lemmas.List.Elements.{All-nil}
 use Rattle.flight_text.specs.Reference.{IsName}
 use Rattle.flight_value.specs.Listed.{In}
-use Rattle.flight_value.specs.Store as store
 use Rattle.flight_value.specs.declared.key.Key.{Key}
 use Rattle.flight_value.specs.declared.key.Key.TheVariants as key
 use Rattle.flight_text.specs.declared.mark.Ref.{Ref}
 use Rattle.flight_text.specs.Mark.{IsPlace}
-use Rattle.flight_row.specs.declared.row.Row.{Row}
 use Rattle.flight_home.specs.Homes.{Homes, IsNew}
 use Rattle.flight_render.specs.declared.root.Ground.{Ground}
 use Rattle.flight_render.specs.Jobs.{Job, Value}
 use Rattle.flight_render.specs.Attempt.{job_for}
 use Rattle.flight_meaning.specs.declared.place.Place.{Place}
 use Rattle.flight_state.specs.State.{next_what}
-use Rattle.flight_state.specs.Local.{Seen, Met, at_first, in_slot, in_place, Births, MetBy}
-use Rattle.flight_state.proofs.Lists.{zip-append, in_front, in_behind, in_either}
-use Rattle.flight_emit.specs.declared.work.Due.{Due}
+use Rattle.flight_state.specs.Local.{Seen, Met, at_first, in_slot, in_place, MetBy}
+use Rattle.flight_state.proofs.Lists.{zip-append, in_front, in_either}
 use Rattle.flight_emit.specs.Sheet.{Sheet, root}
 use Rattle.flight_emit.specs.Good as good
 use Rattle.flight_emit.specs.Good.{IsLeaf}

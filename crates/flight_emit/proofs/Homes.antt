@@ -1,9 +1,9 @@
 -- What is meant at a place is written there, and each node at home there has its slots.
-use Rattle.std.proofs.Common.{◌≡◌, ℕ, zero, suc, ◌+◌, ◌⊎◌, inl, inr, List, [], ◌∷◌, ◌++◌, map, codes, Option, Some, None, option_and_then, refl, sym, ap, ap₂, ◌∙◌, subst, arith}
+use Rattle.std.proofs.Common.{◌≡◌, ℕ, ◌+◌, List, [], ◌∷◌, ◌++◌, map, Option, Some, None, refl, sym, ap, ap₂, ◌∙◌, subst}
 use Rattle.std.proofs.lemmas.Option.{none-some, same_Some}
 use Rattle.std.specs.Prelude.{slice_get}
 use Rattle.std.specs.List.{AllZip}
-use Rattle.flight_value.specs.Listed.{In, Distinct}
+use Rattle.flight_value.specs.Listed.{In}
 use Rattle.flight_value.specs.Store as store
 use Rattle.flight_value.specs.Store.{Label, Shape}
 use Rattle.flight_value.specs.declared.graph.Atom.{Atom}
@@ -18,21 +18,21 @@ use Rattle.flight_meaning.specs.declared.place.Place.{Place}
 use Rattle.flight_meaning.specs.declared.place.Place.TheVariants as place
 use Rattle.flight_meaning.specs.declared.place.PlaceTree.{PlaceTree}
 use Rattle.flight_meaning.specs.declared.place.PlacedRow.{PlacedRow}
-use Rattle.flight_meaning.specs.Linked.{rows_of, Spot, place_at, beside}
+use Rattle.flight_meaning.specs.Linked.{rows_of, Spot, place_at}
 use Rattle.flight_meaning.specs.Resolve.{Path, to, found, Ends, IsStop}
 use Rattle.flight_meaning.specs.Meaning as wire
 use Rattle.flight_meaning.specs.Meaning.{Written, at_place, at_places, Identity, made_at, Token, map_token, set_token, token_label, entry, both, entries, slots_in, node_here, HasShapeHere, HasShape}
-use Rattle.flight_payload.specs.Tree.{count, places_from}
+use Rattle.flight_payload.specs.Tree.{count}
 use Rattle.flight_state.specs.Emits.{HasValueRow}
 use Rattle.flight_state.specs.Fits.{IsAtomRow}
 use Rattle.flight_state.specs.Local as local
 use Rattle.flight_state.specs.Local.{shape_seen, NamesAt, Names, WrittenHere, MeantHere, HasValue, StepsTo, EndsHere}
 use Rattle.flight_state.proofs.NamesLead.{names_lead, value_leads}
-use Rattle.flight_emit.specs.Sheet.{Note, Form, as_array, as_object, as_element, Drawn, leaf, token, composite, Parts, no_parts, part_and, names_in, tree_of, head, value_at, values_in, meant_from, token_place, entry_values, all_entries, values_of, label_of, filled, spot}
+use Rattle.flight_emit.specs.Sheet.{Note, Form, as_array, as_object, as_element, Drawn, leaf, token, composite, Parts, no_parts, part_and, names_in, tree_of, head, value_at, values_in, token_place, entry_values, all_entries, values_of, label_of, filled, spot}
 use Rattle.flight_emit.specs.Good as good
 use Rattle.flight_emit.specs.Good.{Gives, IsNode, HasAtomRow, IsLeaf, HasEntries, IsPlainKind}
 use Rattle.flight_emit.proofs.Rows.{row_there, place_there}
-use Rattle.flight_emit.proofs.Shapes.{numbers_in, tree_numbers_in, Composite}
+use Rattle.flight_emit.proofs.Shapes.{numbers_in, tree_numbers_in}
 use Rattle.flight_emit.proofs.Sits.{Paper, homes, rows, meant, Filled, places, at_path, Sits, PartsSit, value_first, composite_at, parts_at, sheet_sits, SitsAtHome}
 use Rattle.flight_emit.specs.Wrote.{note_at}
 

@@ -1,11 +1,10 @@
 -- Values that are written as a reference to what has one home.
-use Rattle.std.proofs.Common.{◌≡◌, ◌≢◌, ℕ, zero, suc, ◌+◌, ◌<◌, ◌^◌, ◌⊎◌, inl, inr, List, [], ◌∷◌, ◌++◌, Option, Some, None, if◌then◌else◌, refl, sym, ap, ◌∙◌, subst, arith}
+use Rattle.std.proofs.Common.{◌≡◌, ℕ, ◌<◌, ◌^◌, inl, inr, List, [], ◌∷◌, ◌++◌, Option, Some, None, if◌then◌else◌, refl, sym, ap, ◌∙◌, subst, arith}
 use Rattle.std.specs.Prelude.{slice_get}
 use Rattle.flight_value.specs.Listed.{In}
 use Rattle.flight_value.specs.Store as store
 use Rattle.flight_value.specs.Store.{Shape}
 use Rattle.flight_value.specs.declared.graph.Atom.{Atom}
-use Rattle.flight_value.specs.declared.graph.Atom.TheVariants as atom
 use Rattle.flight_value.specs.declared.key.Key.{Key}
 use Rattle.flight_value.specs.declared.key.Key.TheVariants as key
 use Rattle.flight_value.specs.declared.made.Tree.TheVariants as tree
@@ -13,8 +12,7 @@ use Rattle.flight_value.specs.declared.name.Name.{Name}
 use Rattle.flight_text.specs.declared.mark.Ref.{Ref}
 use Rattle.flight_text.specs.Mark.{IsPlace}
 use Rattle.flight_row.specs.declared.row.RowKind.{RowKind}
-use Rattle.flight_row.specs.declared.row.RowKind.TheVariants as row
-use Rattle.flight_home.specs.Homes.{Homes, IsNew}
+use Rattle.flight_home.specs.Homes.{IsNew}
 use Rattle.flight_render.specs.declared.root.Ground.{Ground}
 use Rattle.flight_render.specs.declared.job.What.{What}
 use Rattle.flight_render.specs.declared.job.What.TheVariants as what
@@ -24,16 +22,15 @@ use Rattle.flight_eval.specs.declared.body.Body.{Body}
 use Rattle.flight_emit.specs.Seen.{look, tables_by, seen_of, IsServerNode}
 use Rattle.flight_render.specs.Jobs.{is_server, Value, shown, of_job, outcome, element, target_of}
 use Rattle.flight_render.specs.Attempt.{job_for}
-use Rattle.flight_meaning.specs.declared.place.Place.{Place}
 use Rattle.flight_meaning.specs.declared.place.Place.TheVariants as place
 use Rattle.flight_payload.specs.Written.{token_of}
 use Rattle.flight_state.specs.State.{stream_for, IsAlone, next_by, next_what}
-use Rattle.flight_state.specs.Local.{Seen, IsSeen, job_seen, shape_seen, IsAtomOf, Met, at_first, in_slot, MetBy, TablesHere, IsRowKey, RefersBy}
+use Rattle.flight_state.specs.Local.{Seen, IsSeen, job_seen, shape_seen, IsAtomOf, at_first, in_slot, MetBy, TablesHere, IsRowKey}
 use Rattle.flight_state.proofs.Lists.{in_behind}
 use Rattle.flight_emit.specs.Sheet.{root}
 use Rattle.flight_emit.specs.Good as good
 use Rattle.flight_emit.specs.Good.{IsNode, IsLeaf, IsPlainKind}
-use Rattle.flight_emit.specs.Log.{Taken, atom_row, task, stream_row, Act, take, home_for, sheets_by, IsTaskFor, Stage, Took, Put, FitsTaken}
+use Rattle.flight_emit.specs.Log.{Taken, atom_row, task, stream_row, home_for, IsTaskFor, Stage, Took, Put}
 use Rattle.flight_emit.specs.declared.node.Sort.{Sort}
 use Rattle.flight_emit.specs.declared.node.Sort.TheVariants as sort
 use Rattle.flight_emit.specs.Nodes.{IsReady, reference_place}

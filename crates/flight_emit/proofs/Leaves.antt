@@ -1,17 +1,14 @@
 -- Values that are written as an atom or a reference.
-use Rattle.std.proofs.Common.{◌≡◌, ◌≢◌, ℕ, zero, suc, ◌+◌, ◌<◌, ◌^◌, ◌⊎◌, inl, inr, List, [], ◌∷◌, ◌++◌, Option, Some, None, refl, sym, ap, ◌∙◌, subst, arith, append-nil}
+use Rattle.std.proofs.Common.{◌≡◌, ℕ, suc, ◌<◌, ◌^◌, inl, inr, List, [], ◌∷◌, ◌++◌, None, refl, sym, ap, ◌∙◌, subst, arith, append-nil}
 use Rattle.std.proofs.lemmas.List.Elements.{All-nil}
-use Rattle.std.specs.List.{AllZip}
 use Rattle.std.specs.Prelude.{Result, Ok, Err, IfOk, OnOk}
 use Rattle.flight_value.specs.Graph.{IsValidAtom}
 use Rattle.json.specs.Token.{Token}
 use Rattle.flight_value.specs.declared.memory.Memory.{Memory}
-use Rattle.flight_value.specs.Listed.{In}
 use Rattle.flight_value.specs.Store as store
 use Rattle.flight_value.specs.declared.graph.Atom.{Atom}
 use Rattle.flight_value.specs.declared.graph.Atom.TheVariants as atom
 use Rattle.flight_value.specs.declared.made.Tree.TheVariants as tree
-use Rattle.flight_text.specs.declared.mark.Ref.{Ref}
 use Rattle.flight_text.specs.Reference.{IsName}
 use Rattle.flight_row.specs.declared.row.Row.{Row}
 use Rattle.flight_row.specs.declared.row.RowKind.{RowKind}
@@ -28,10 +25,10 @@ use Rattle.flight_payload.specs.Tree.{single}
 use Rattle.flight_payload.specs.Rows.{IsRow, HasAtom, HasWritten}
 use Rattle.flight_state.specs.Steps.{RefersTo}
 use Rattle.flight_state.specs.Local.{Seen}
-use Rattle.flight_emit.specs.Sheet.{filled, leaf, root}
+use Rattle.flight_emit.specs.Sheet.{root}
 use Rattle.flight_emit.specs.Good as good
 use Rattle.flight_emit.specs.Good.{Gives, itself, IsLeaf, IsPlainKind}
-use Rattle.flight_emit.specs.Log.{Taken, atom_row, Act, take, places_by, sheets_by, home_for, sheet_for, AreNew, HasSheet, Stage, Grows, Took, Put, FitsTaken}
+use Rattle.flight_emit.specs.Log.{Taken, atom_row, Act, take, places_by, sheets_by, home_for, AreNew, Stage, Grows, Took, Put, FitsTaken}
 use Rattle.flight_emit.specs.Wrote.{WroteLeaf}
 use Rattle.flight_emit.proofs.Growing.{grows_none, grows_took, grows_out}
 

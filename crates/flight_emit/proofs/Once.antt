@@ -1,26 +1,24 @@
 -- One value is meant at a place, and one node is given by a value.
-use Rattle.std.proofs.Common.{◌≡◌, ℕ, zero, suc, ◌+◌, ◌<◌, ◌≤◌, ◌⊎◌, inl, inr, ⊎_elim, List, [], ◌∷◌, ◌++◌, Option, Some, None, refl, sym, ap, ◌∙◌, subst, arith}
+use Rattle.std.proofs.Common.{◌≡◌, ℕ, ◌+◌, ◌<◌, ◌≤◌, ◌⊎◌, inl, inr, ⊎_elim, [], ◌∷◌, ◌++◌, Option, Some, None, refl, sym, ap, ◌∙◌, subst, arith}
 use Rattle.std.proofs.lemmas.Option.{none-some, same_Some}
 use Rattle.flight_value.specs.Listed.{In}
 use Rattle.flight_value.specs.Store as store
 use Rattle.flight_value.specs.declared.key.Key.{Key}
 use Rattle.flight_value.specs.declared.name.Name.{Name}
-use Rattle.flight_render.specs.Run.{End}
 use Rattle.flight_render.specs.Jobs.{Job, Value, element, target_of}
 use Rattle.flight_meaning.specs.declared.place.Place.{Place}
-use Rattle.flight_meaning.specs.declared.place.Place.TheVariants as place
 use Rattle.flight_meaning.specs.Linked.{Spot}
 use Rattle.flight_meaning.specs.Resolve.{Path}
 use Rattle.flight_payload.specs.Tree.{count, trees_of}
 use Rattle.flight_payload.proofs.Standing.{Each, EachTree, EachProp}
 use Rattle.flight_state.specs.Emits.{IsPlain}
-use Rattle.flight_state.specs.Local.{Seen, job_seen, value_seen}
+use Rattle.flight_state.specs.Local.{job_seen, value_seen}
 use Rattle.flight_state.proofs.Lists.{in_either, map_in}
-use Rattle.flight_emit.specs.Sheet.{Note, Form, as_array, as_object, as_element, Drawn, leaf, token, composite, Parts, no_parts, part_and, names_in, tree_of, trees_in, props_with, composed, head, value_in, value_at, numbered, meant_from, meant_in, Sheet, filled, opening, id_on, spot, spotted, meant_on}
+use Rattle.flight_emit.specs.Sheet.{Form, as_array, as_object, as_element, Drawn, leaf, token, composite, Parts, no_parts, part_and, names_in, tree_of, trees_in, props_with, head, value_in, numbered, meant_from, meant_in, Sheet, filled, opening, spot, spotted, meant_on}
 use Rattle.flight_emit.specs.Good.{Gives, itself, in_place, IsNode}
 use Rattle.flight_emit.proofs.Rows.{one_sheet}
 use Rattle.flight_emit.proofs.Shapes.{counts}
-use Rattle.flight_emit.proofs.Sits.{Paper, meant, Filled, places, Sits, PartsSit, flat_in, in_numbered, composite_at, parts_at, sheet_sits}
+use Rattle.flight_emit.proofs.Sits.{Paper, meant, Filled, Sits, PartsSit, flat_in, in_numbered, composite_at, parts_at, sheet_sits}
 
 -- ---- nodes
 

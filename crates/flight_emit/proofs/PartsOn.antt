@@ -1,27 +1,23 @@
 -- Parts that are written one after another, and the composite that they make.
-use Rattle.std.proofs.Common.{◌≡◌, ◌≢◌, ℕ, zero, suc, ◌+◌, ◌^◌, ◌≤◌, ◌⊎◌, inl, inr, ⊎_elim, List, [], ◌∷◌, ◌++◌, map, Option, Some, None, refl, sym, ap, ap₂, ◌∙◌, subst, arith, append_assoc, append-nil}
+use Rattle.std.proofs.Common.{◌≡◌, ℕ, ◌+◌, ◌^◌, ◌≤◌, ⊎_elim, List, [], ◌∷◌, ◌++◌, Some, None, refl, sym, ap, ap₂, ◌∙◌, subst, append_assoc, append-nil}
 use Rattle.std.proofs.lemmas.List.{map-append}
-use Rattle.std.proofs.lemmas.Option.{none-some, same_Some}
 use Rattle.std.specs.List.{AllZip}
-use Rattle.json.specs.Token.{Token}
-use Rattle.json.specs.Token as token
 use Rattle.flight_value.specs.Listed.{In}
 use Rattle.flight_value.specs.declared.key.Key.{Key}
 use Rattle.flight_text.specs.declared.mark.Ref.{Ref}
-use Rattle.flight_home.specs.Homes.{Homes, IsNew}
+use Rattle.flight_home.specs.Homes.{Homes}
 use Rattle.flight_render.specs.declared.root.Ground.{Ground}
 use Rattle.flight_render.specs.Jobs.{Value}
-use Rattle.flight_meaning.specs.declared.place.Place.{Place}
 use Rattle.flight_meaning.specs.Meaning as wire
 use Rattle.flight_payload.specs.Tree.{depth}
 use Rattle.flight_payload.specs.Written.{tokens_of, IsWritable}
 use Rattle.flight_state.specs.Local.{Seen, Met}
 use Rattle.flight_state.proofs.Lists.{in_front, in_behind, in_either}
 use Rattle.flight_emit.specs.declared.work.Due.{Due}
-use Rattle.flight_emit.specs.Sheet.{Note, Form, as_array, as_object, as_element, Drawn, leaf, token as is_token, composite, Parts, no_parts, part_and, names_in, values_in, tree_of, trees_in, value_at, below, homes_in, homes_of, Sheet}
-use Rattle.flight_emit.specs.Good.{Gives, IsNode, IsLeaf, IsHomeOf, IsHome, IsMeant, Entries, IsGood, AreGood}
-use Rattle.flight_emit.specs.Log.{Act, put, take, takes, homes_by, places_by, sheets_by, births_by, dues_by, AreNew, HasSheet, Stage, Grows}
-use Rattle.flight_emit.specs.Wrote.{WroteLeaf, AreDue, Wrote, part_tokens, tokens_in, AllWritable, AllWithin, WroteParts}
+use Rattle.flight_emit.specs.Sheet.{Note, Form, as_array, as_object, as_element, Drawn, leaf, token as is_token, composite, Parts, no_parts, part_and, names_in, values_in, tree_of, value_at, below, homes_in, homes_of, Sheet}
+use Rattle.flight_emit.specs.Good.{IsHomeOf, Entries, IsGood, AreGood}
+use Rattle.flight_emit.specs.Log.{takes, homes_by, places_by, sheets_by, births_by, dues_by, AreNew, HasSheet, Stage, Grows}
+use Rattle.flight_emit.specs.Wrote.{AreDue, Wrote, part_tokens, tokens_in, AllWritable, AllWithin, WroteParts, name_tokens}
 use Rattle.flight_emit.proofs.Growing.{Keeps, leaf_more, homes-append, sheets-append, dues-append, places-append, grows_none, grows_more, grows_on}
 
 -- ---- more homes, sheets and rows that are due
@@ -107,11 +103,6 @@ parts_none g seen v form r levels s =
       shallow = tt;
     }
 
--- the tokens that stand between two parts: a property's name
-abbrev pub name_tokens : Form → List ℕ → List Token
-name_tokens as_object name = token.key name ∷ []
-name_tokens form name = []
-
 name_first : (form : Form) (name : List ℕ) (d : Drawn) → part_tokens form name d ≡ name_tokens form name ++ tokens_of (tree_of d)
 name_first as_array name d = refl
 name_first as_object name d = refl
@@ -128,18 +119,18 @@ parts_more g seen v w form r names values levels name s t m u a named met b =
     let n = same ∙ (let grown = a.grows in grown.next) in
     let more = grows_on g seen v w ys m u met b.grows in
     let second : Grows g seen v ys t u =
-        record {
-          homes = more.homes ∙ ap₂ (λ y z. y ++ homes_by z ys) (ap (λ z. z.homes) named) same;
-          next = more.next ∙ ap (λ z. z + takes ys) same;
-          added = more.added;
-          rows = more.rows ∙ ap (λ z. z ++ more.added) (ap (λ z. z.rows) named);
-          sheets = subst (λ z. AllZip HasSheet more.added (sheets_by z ys)) same more.sheets;
-          births = more.births ∙ ap₂ (λ y z. y ++ births_by z ys) (ap (λ z. z.births) named) same;
-          dues = more.dues ∙ ap₂ (λ y z. y ++ dues_by z ys) (ap (λ z. z.dues) named) same;
-          below = λ low. more.below (subst (λ z. z ≤ 2 ^ 31) (sym same) low);
-          keys = subst (λ z. AreNew z (homes_by t.next ys)) (ap (λ z. z.homes) named) (subst (λ z. AreNew m.homes (homes_by z ys)) same more.keys);
-          fit = more.fit;
-        } in
+    record {
+      homes = more.homes ∙ ap₂ (λ y z. y ++ homes_by z ys) (ap (λ z. z.homes) named) same;
+      next = more.next ∙ ap (λ z. z + takes ys) same;
+      added = more.added;
+      rows = more.rows ∙ ap (λ z. z ++ more.added) (ap (λ z. z.rows) named);
+      sheets = subst (λ z. AllZip HasSheet more.added (sheets_by z ys)) same more.sheets;
+      births = more.births ∙ ap₂ (λ y z. y ++ births_by z ys) (ap (λ z. z.births) named) same;
+      dues = more.dues ∙ ap₂ (λ y z. y ++ dues_by z ys) (ap (λ z. z.dues) named) same;
+      below = λ low. more.below (subst (λ z. z ≤ 2 ^ 31) (sym same) low);
+      keys = subst (λ z. AreNew z (homes_by t.next ys)) (ap (λ z. z.homes) named) (subst (λ z. AreNew m.homes (homes_by z ys)) same more.keys);
+      fit = more.fit;
+    } in
     let homes = homes-append s.next xs ys in
     let sheets = sheets-append s.next xs ys in
     let dues = dues-append s.next xs ys in

@@ -1,7 +1,5 @@
 -- The parts of a composite: their numbers, the steps that lead to them, and the node that they make.
-use Rattle.std.proofs.Common.{◌≡◌, ◌≢◌, ℕ, zero, suc, ◌+◌, ◌^◌, ◌<◌, ◌≤◌, Bool, true, false, if◌then◌else◌, ◌⊎◌, inl, inr, List, [], ◌∷◌, ◌++◌, map, length, codes, Option, Some, None, refl, sym, ap, ap₂, ◌∙◌, subst, arith}
-use Rattle.std.proofs.lemmas.Option.{none-some, same_Some}
-use Rattle.std.proofs.lemmas.Bool.Decides.{nat_tests}
+use Rattle.std.proofs.Common.{◌≡◌, ℕ, suc, ◌+◌, ◌^◌, ◌<◌, ◌≤◌, true, false, if◌then◌else◌, inl, inr, List, [], ◌∷◌, map, length, codes, Option, Some, refl, sym, ap, ap₂, ◌∙◌, subst, arith}
 use Rattle.std.proofs.lemmas.Fmt.{decimal_injective}
 use Rattle.std.proofs.lemmas.Slice.Eq.{bytes_eq-Decides}
 use Rattle.std.specs.Prelude.{slice_get}
@@ -15,9 +13,9 @@ use Rattle.flight_meaning.specs.declared.place.Place.TheVariants as place
 use Rattle.flight_meaning.specs.Linked.{Spot}
 use Rattle.flight_meaning.specs.Resolve.{property, item_from, part, step, IsStop}
 use Rattle.flight_meaning.specs.Meaning.{node_here, at_places}
-use Rattle.flight_payload.specs.Tree.{Tree, trees_of, count, tree_count, prop_count, tree_numbers, prop_numbers}
+use Rattle.flight_payload.specs.Tree.{trees_of, count, tree_count, prop_count, tree_numbers, prop_numbers}
 use Rattle.flight_payload.specs.Standing.{Stands, AllStand, EachStands}
-use Rattle.flight_emit.specs.Sheet.{Note, Form, as_array, as_object, as_element, Drawn, Parts, no_parts, part_and, names_in, tree_of, trees_in, props_with, composed, head, label_of}
+use Rattle.flight_emit.specs.Sheet.{Form, as_array, as_object, as_element, Drawn, Parts, no_parts, part_and, names_in, tree_of, trees_in, props_with, composed, head, label_of}
 use Rattle.flight_emit.specs.Good.{AreIndices, HasNames}
 
 -- ---- numbers

@@ -1,12 +1,8 @@
 -- Where the values of sheets sit among the places of rows.
-use Rattle.std.proofs.Common.{◌≡◌, ◌≢◌, ℕ, zero, suc, ◌+◌, ◌≤◌, ◌⊎◌, inl, inr, ⊎_elim, List, [], ◌∷◌, ◌++◌, map, flat_map, codes, Option, Some, None, option_map, refl, sym, ap, ap₂, ◌∙◌, subst, arith}
+use Rattle.std.proofs.Common.{◌≡◌, ℕ, ◌+◌, inl, inr, ⊎_elim, List, [], ◌∷◌, ◌++◌, flat_map, Option, Some, None, refl, sym, ap, subst}
 use Rattle.std.proofs.lemmas.Option.{none-some, same_Some}
 use Rattle.std.specs.Prelude.{slice_get}
-use Rattle.std.specs.List.{AllZip}
-use Rattle.flight_value.specs.Listed.{In, Distinct}
-use Rattle.flight_value.specs.Store as store
-use Rattle.flight_value.specs.Store.{Shape}
-use Rattle.flight_value.specs.declared.graph.Atom.{Atom}
+use Rattle.flight_value.specs.Listed.{In}
 use Rattle.flight_value.specs.declared.key.Key.{Key}
 use Rattle.flight_text.specs.declared.mark.Ref.{Ref}
 use Rattle.flight_row.specs.declared.row.RowKind.{RowKind}
@@ -14,17 +10,15 @@ use Rattle.flight_home.specs.Homes.{Homes}
 use Rattle.flight_render.specs.declared.root.Ground.{Ground}
 use Rattle.flight_render.specs.Jobs.{Value}
 use Rattle.flight_meaning.specs.declared.place.Place.{Place}
-use Rattle.flight_meaning.specs.declared.place.Place.TheVariants as place
 use Rattle.flight_meaning.specs.declared.place.PlacedRow.{PlacedRow}
-use Rattle.flight_meaning.specs.Linked.{Spot, place_at}
 use Rattle.flight_meaning.specs.Resolve.{Path, step}
-use Rattle.flight_payload.specs.Tree.{Tree, count, places_from}
+use Rattle.flight_payload.specs.Tree.{count, places_from}
 use Rattle.flight_payload.specs.Standing.{Stands}
 use Rattle.flight_payload.proofs.Standing.{whole_stands}
 use Rattle.flight_state.specs.Emits.{Meant}
-use Rattle.flight_state.specs.Local.{Seen, Births, StepsTo, EndsHere}
-use Rattle.flight_state.proofs.Lists.{in_front, in_behind, in_either, in_map, map_in}
-use Rattle.flight_emit.specs.Sheet.{Note, Form, Drawn, leaf, token, composite, Parts, no_parts, part_and, tree_of, head, value_in, value_at, numbered, meant_from, meant_in, below, root, home_of, homes_in, homes_of, Sheet, filled, opening, rows_on, homes_on, spot, spotted, meant_on, meant_of}
+use Rattle.flight_state.specs.Local.{Seen, Births, StepsTo}
+use Rattle.flight_state.proofs.Lists.{in_front, in_behind, in_either, in_map}
+use Rattle.flight_emit.specs.Sheet.{Note, Form, Drawn, leaf, token, composite, Parts, no_parts, part_and, tree_of, head, value_in, value_at, numbered, meant_from, meant_in, homes_in, homes_of, Sheet, filled, rows_on, spot, spotted, meant_on, meant_of}
 use Rattle.flight_emit.specs.Good.{HasEntries, IsGood, AreGood}
 use Rattle.flight_emit.specs.Whole.{Use, OnPaper}
 use Rattle.flight_emit.specs.Wrote.{note_at}

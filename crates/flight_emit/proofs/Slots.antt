@@ -1,8 +1,7 @@
 -- The nodes that a writer goes through: their shapes, and what is met from them.
-use Rattle.std.proofs.Common.{◌≡◌, ℕ, zero, suc, ◌+◌, ◌<◌, ◌≤◌, Bool, true, false, ◌⊎◌, inl, inr, List, [], ◌∷◌, ◌++◌, map, length, Option, Some, None, if◌then◌else◌, option_map, option_and_then, refl, sym, ap, ap₂, ◌∙◌, subst, arith, take, length-append}
-use Rattle.std.proofs.lemmas.Option.{none-some, same_Some}
+use Rattle.std.proofs.Common.{◌≡◌, ℕ, List, [], ◌∷◌, map, Option, Some, None, option_map, option_and_then, refl, ap, ap₂, ◌∙◌}
+use Rattle.std.proofs.lemmas.Option.{none-some}
 use Rattle.std.specs.Prelude.{slice_get}
-use Rattle.std.specs.Fmt.{decimal}
 use Rattle.flight_value.specs.Graph as graph
 use Rattle.flight_value.specs.Listed.{In}
 use Rattle.flight_value.specs.Store as store
@@ -14,22 +13,16 @@ use Rattle.flight_value.specs.declared.graph.Slot.TheVariants as slot
 use Rattle.flight_value.specs.declared.key.Key.{Key}
 use Rattle.flight_value.specs.declared.key.Key.TheVariants as key
 use Rattle.flight_value.specs.declared.made.Made.{Made}
-use Rattle.flight_value.specs.declared.made.MadeKind.{MadeKind}
-use Rattle.flight_value.specs.declared.made.MadeKind.TheVariants as kind
-use Rattle.flight_value.specs.declared.made.Tree.{Tree}
-use Rattle.flight_value.specs.declared.made.Tree.TheVariants as tree
 use Rattle.flight_value.specs.declared.name.Name.{Name}
 use Rattle.flight_syntax.specs.declared.script.Outcome.{Outcome}
 use Rattle.flight_render.specs.declared.root.Ground.{Ground}
 use Rattle.flight_render.specs.Values.{tree_of, outcomes, node_in}
-use Rattle.flight_render.specs.Jobs.{Value, shown, is_server}
+use Rattle.flight_render.specs.Jobs.{Value, shown}
 use Rattle.flight_render.specs.Plain.{made_shape, label_of_kind, source_slots, source_shape}
-use Rattle.flight_eval.specs.declared.body.Body.{Body}
 use Rattle.flight_state.specs.Local.{Seen, Met, at_first, in_slot, shape_seen}
-use Rattle.flight_emit.specs.Good.{IsNode, AreIndices}
+use Rattle.flight_emit.specs.Good.{IsNode}
 use Rattle.flight_emit.specs.Log.{value_of_key}
-use Rattle.flight_emit.specs.Seen.{look, seen_of}
-use Rattle.flight_emit.specs.Nodes.{slot_tree, slots_of_source, indices}
+use Rattle.flight_emit.specs.Nodes.{slot_tree, slots_of_source, IsPlainNode}
 
 -- ---- shapes
 
@@ -40,11 +33,6 @@ same_slot o source (slot.Node n) = refl
 same_slots : (o : Outcome) (source : ℕ) (ss : List Slot) → map (λ s. shown (tree_of o source s)) ss ≡ map (λ s. shown (slot_tree source s)) ss
 same_slots o source [] = refl
 same_slots o source (s ∷ ss) = ap₂ (λ x xs. x ∷ xs) (same_slot o source s) (same_slots o source ss)
-
--- no promise
-abbrev pub IsPlainNode : Node → Type 0
-IsPlainNode (node.Promise held) = ⊥
-IsPlainNode n = Unit {0}
 
 plain_slots : (o : Outcome) (source : ℕ) (n : Node) → IsPlainNode n → source_slots o source n ≡ slots_of_source source n
 plain_slots o source (node.Promise held) h = absurd h
@@ -72,27 +60,3 @@ made_shaped g seen name m label e f = ap (option_and_then (made_shape g)) e ∙ 
 
 pub slot_met : (g : Ground) (seen : Seen) (k : Key) (shape : Shape Value) (w : Value) → IsNode g seen (value_of_key k) k → shape_seen g seen k ≡ Some shape → In w shape.slots → Met g seen (value_of_key k) w
 slot_met g seen k shape w node is_shape i = in_slot at_first node.is_seen node.no_job node.is_target node.lasting is_shape i
-
--- ---- names of items
-
-pub indices_length : (n : ℕ) → length (indices n) ≡ n
-indices_length zero = refl
-indices_length (suc n) = let e = indices_length n in let f = length-append (indices n) (decimal n ∷ []) in omega (arith, e, f)
-
-snoc_indices : (k n : ℕ) (names : List (List ℕ)) → AreIndices k names → n ≡ k + length names → AreIndices k (names ++ decimal n ∷ [])
-snoc_indices k n [] h e = (ap decimal (let f : n ≡ k = omega (arith, e) in f), tt)
-snoc_indices k n (name ∷ names) h e = (h.0, snoc_indices (suc k) n names h.1 (omega (arith, e)))
-
-pub are_indices : (n : ℕ) → AreIndices 0 (indices n)
-are_indices zero = tt
-are_indices (suc n) = snoc_indices 0 n (indices n) (are_indices n) (let e = indices_length n in omega (arith, e))
-
-pub take_snoc : {A : Type 0} (xs : List A) (n : ℕ) (x : A) → slice_get xs n ≡ Some x → take (suc n) xs ≡ take n xs ++ x ∷ []
-take_snoc [] n x e = absurd (none-some x e)
-take_snoc (y ∷ ys) zero x e = ap (λ z. z ∷ []) (same_Some y x e)
-take_snoc (y ∷ ys) (suc n) x e = ap (λ z. y ∷ z) (take_snoc ys n x e)
-
-pub in_at : {A : Type 0} (xs : List A) (n : ℕ) (x : A) → slice_get xs n ≡ Some x → In x xs
-in_at [] n x e = absurd (none-some x e)
-in_at (y ∷ ys) zero x e = inl (sym (same_Some y x e))
-in_at (y ∷ ys) (suc n) x e = inr (in_at ys n x e)

@@ -1,47 +1,42 @@
 -- Acts whose rows are all written are on paper: the facts one by one.
-use Rattle.std.proofs.Common.{◌≡◌, ◌≢◌, ℕ, zero, suc, ◌+◌, ◌<◌, ◌≤◌, Bool, true, false, ◌⊎◌, inl, inr, ⊎_elim, List, [], ◌∷◌, ◌++◌, map, length, codes, Option, Some, None, option_map, refl, sym, ap, ap₂, ◌∙◌, subst, arith}
+use Rattle.std.proofs.Common.{◌≡◌, ℕ, suc, ◌≤◌, true, false, ◌⊎◌, inl, inr, ⊎_elim, List, [], ◌∷◌, ◌++◌, map, codes, Option, Some, None, option_map, refl, sym, ap, ◌∙◌, subst, arith}
 use Rattle.std.proofs.lemmas.Option.{none-some, same_Some}
 use Rattle.std.specs.Prelude.{slice_get}
 use Rattle.flight_value.specs.Listed.{In, Distinct}
 use Rattle.flight_value.specs.Store as store
 use Rattle.flight_value.specs.Store.{Label, Shape, Target}
 use Rattle.flight_value.specs.declared.graph.Atom.{Atom}
-use Rattle.flight_value.specs.declared.graph.Atom.TheVariants as atom
 use Rattle.flight_value.specs.declared.key.Key.{Key}
 use Rattle.flight_value.specs.declared.key.Key.TheVariants as key
-use Rattle.flight_value.specs.declared.made.Tree.{Tree}
 use Rattle.flight_value.specs.declared.made.Tree.TheVariants as tree
 use Rattle.flight_syntax.specs.declared.script.Flowing.{Flowing}
 use Rattle.flight_text.specs.declared.mark.Ref.{Ref}
-use Rattle.flight_row.specs.declared.row.RowKind.{RowKind}
 use Rattle.flight_row.specs.declared.row.RowKind.TheVariants as row
-use Rattle.flight_home.specs.Homes.{Homes, IsNew}
+use Rattle.flight_home.specs.Homes.{Homes}
 use Rattle.flight_render.specs.declared.root.Ground.{Ground}
 use Rattle.flight_render.specs.declared.job.What.{What}
-use Rattle.flight_render.specs.declared.job.What.TheVariants as what
 use Rattle.flight_render.specs.Jobs.{Value, shown, failed, stopped, of_job, target_of}
 use Rattle.flight_render.specs.Plain.{flow_shape}
 use Rattle.flight_render.specs.Attempt.{job_for}
 use Rattle.flight_render.specs.Laws.{IsLasting}
-use Rattle.flight_meaning.specs.declared.place.Place.{Place}
 use Rattle.flight_meaning.specs.declared.place.Place.TheVariants as place
 use Rattle.flight_meaning.specs.Meaning.{Token, map_token, set_token, token_label}
 use Rattle.flight_state.specs.State.{stream_for, IsAlone, next_by, next_what}
 use Rattle.flight_state.specs.Local.{Seen, shape_seen, MetBy, TablesHere, IsRowKey, IsAtomOf, Births}
-use Rattle.flight_state.proofs.Lists.{in_front, in_behind, in_either, map_in}
+use Rattle.flight_state.proofs.Lists.{in_either}
 use Rattle.flight_emit.specs.declared.work.Due.{Due}
 use Rattle.flight_emit.specs.declared.work.Due.TheVariants as due
-use Rattle.flight_emit.specs.Sheet.{Note, Form, as_array, as_object, as_element, Drawn, leaf, token as is_token, composite, Parts, no_parts, part_and, names_in, value_at, values_in, values_of, label_of, reference_parts, below, home_of, homes_in, homes_of, Sheet, filled, opening, id_on, homes_on, root}
-use Rattle.flight_emit.specs.Good.{Gives, IsNode, IsHomeOf, HasShape, HasEntries, IsHome, Entries, IsGood, AreGood, IsPlainKind, IsGoodSheet, HasAtomRow}
+use Rattle.flight_emit.specs.Sheet.{Note, as_array, as_object, Drawn, leaf, token as is_token, composite, Parts, no_parts, part_and, names_in, values_in, values_of, label_of, reference_parts, below, homes_in, homes_of, Sheet, filled, opening, id_on, homes_on, root}
+use Rattle.flight_emit.specs.Good.{IsNode, IsHomeOf, HasShape, HasEntries, IsGood, AreGood, IsGoodSheet, HasAtomRow}
 use Rattle.flight_emit.specs.Whole as whole
 use Rattle.flight_emit.specs.Whole.{Use, ids_from, HasOneSlot, HasNodeHome, HasHome, HasStream, HasOwnId, OnPaper}
-use Rattle.flight_emit.specs.Log.{Taken, atom_row, value_row, entries_row, task, stream_row, reference_row, Act, put, take, takes, home_for, sheet_for, birth_for, due_for, homes_by, places_by, sheets_by, births_by, dues_by, value_of_key, IsTaskFor, FitsTaken, FitActs, AreNew}
+use Rattle.flight_emit.specs.Log.{Taken, atom_row, value_row, entries_row, task, stream_row, reference_row, Act, put, take, home_for, sheet_for, birth_for, due_for, homes_by, places_by, sheets_by, births_by, dues_by, value_of_key, IsTaskFor, FitsTaken}
 use Rattle.flight_emit.specs.Wrote.{AreDue, note_at}
-use Rattle.flight_emit.specs.Finished.{use_of, uses_of, due_id, IsDone, IsDrafted, Finished}
+use Rattle.flight_emit.specs.Finished.{use_of, uses_of, due_id, IsDrafted, Finished}
 use Rattle.flight_emit.proofs.Growing.{leaf_more}
 use Rattle.flight_emit.proofs.PartsOn.{good_more}
 use Rattle.flight_emit.proofs.Homes.{IsPlaceLabel, form_label, token_named}
-use Rattle.flight_emit.proofs.Finishing.{Added, Source, sheet_source, birth_source, due_source, home_source, new_key, one_home}
+use Rattle.flight_emit.proofs.Finishing.{Added, sheet_source, birth_source, due_source, home_source, new_key, one_home}
 
 -- ---- nodes at home in rows
 
@@ -297,6 +292,7 @@ sheet_use d s i = ⊎_elim at_once (λ j. ⊎_elim (λ own. inl own) (λ h. inr 
         let f = sheet_source d.g d.seen d.first (all d) d.start d.acts s d.is.fit j in
         let r = taken_row f.id f.taken s f.is in
         inr (subst (HasRowUse d) (sym r.0) (use_of f.taken, f.added.is_use, r.1))
+
     by_due : (x : Due) → In x (dues_by d.start d.acts) → due_id x ≡ id_on s → HasRowUse d (id_on s)
     by_due x j e =
         let f = due_source d.g d.seen d.first (all d) d.start d.acts x d.is.fit j in
@@ -332,10 +328,10 @@ value_home d id k i =
     let s : Sheet = filled id row.Model done.0 in
     ⊎_elim
     (λ note.
-        let homed = note_homed id done.0 (record { value = value_of_key k; key = k }) note in
-        let n = placed_on d.g d.seen (all d) (more d) d.sheets (dues_by d.start d.acts) s k (root id) (d.is.drafted s done.1) homed in
-        let node = n.node in
-        at_home d.g d.seen d.sheets (births d) k (root id) (placed_key d.g d.seen k n) node.lasting (whole.at_place s (d.is.written s done.1) homed))
+    let homed = note_homed id done.0 (record { value = value_of_key k; key = k }) note in
+    let n = placed_on d.g d.seen (all d) (more d) d.sheets (dues_by d.start d.acts) s k (root id) (d.is.drafted s done.1) homed in
+    let node = n.node in
+    at_home d.g d.seen d.sheets (births d) k (root id) (placed_key d.g d.seen k n) node.lasting (whole.at_place s (d.is.written s done.1) homed))
     (λ h. one_slot_home d.g d.seen d.sheets (births d) k (root id) store.promise h.0 h.1 (λ z. z) (whole.promise_with_row h.0 row.Model done.0 h.1 (d.is.written s done.1) h.2))
     done.2
 
@@ -393,16 +389,23 @@ taken_birth d n (value_row k) id w added fits i = absurd i
 taken_birth d n (entries_row k) id w added fits i = absurd i
 taken_birth d n (reference_row k name v at) id w added fits i = absurd i
 taken_birth d n (task k what) id w added fits (inl e) =
-    subst (λ p. IsBorn d p.0 p.1) (sym e)
-    ((use_of (task k what), added.is_use, refl, (λ alone. refl)),
-    (subst (MetBy d.g d.seen d.first (job_for d.g what)) (sym fits.0) fits.1, (fits.2, (λ stream s. absurd (none-some stream (sym fits.0 ∙ s))))))
+    subst (λ p. IsBorn d p.0 p.1) (sym e) (
+      (use_of (task k what), added.is_use, refl, (λ alone. refl)),
+      (subst (MetBy d.g d.seen d.first (job_for d.g what)) (sym fits.0) fits.1, (fits.2, (λ stream s. absurd (none-some stream (sym fits.0 ∙ s))))),
+    )
 taken_birth d n (task k what) id w added fits (inr i) = absurd i
 taken_birth d n (stream_row stream flows) id w added fits (inl e) =
     let next = next_stream stream flows.items 0 in
-    subst (λ p. IsBorn d p.0 p.1) (sym e)
-    ((use_of (stream_row stream flows), added.is_use, refl, (λ alone. absurd (none-some stream (sym alone ∙ next)))),
-    (subst (MetBy d.g d.seen d.first (job_for d.g (next_what stream flows.items 0))) (sym next) fits.1, (next_tables d.seen stream flows.items 0,
-    (λ other s. (root n, subst (λ z. In (key.Stream z, root n) (more d)) (same_Some stream other (sym next ∙ s)) (added.homes (key.Stream stream, root n) (inl refl)), refl)))))
+    subst (λ p. IsBorn d p.0 p.1) (sym e) (
+      (use_of (stream_row stream flows), added.is_use, refl, (λ alone. absurd (none-some stream (sym alone ∙ next)))),
+      (
+        subst (MetBy d.g d.seen d.first (job_for d.g (next_what stream flows.items 0))) (sym next) fits.1,
+        (
+          next_tables d.seen stream flows.items 0,
+          (λ other s. (root n, subst (λ z. In (key.Stream z, root n) (more d)) (same_Some stream other (sym next ∙ s)) (added.homes (key.Stream stream, root n) (inl refl)), refl)),
+        ),
+      ),
+    )
 taken_birth d n (stream_row stream flows) id w added fits (inr i) = absurd i
 
 born : (d : Done) (id : ℕ) (w : What) → In (id, w) (births d) → IsBorn d id w

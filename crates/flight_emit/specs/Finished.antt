@@ -1,5 +1,5 @@
 -- When all rows that acts ask for are written.
-use Rattle.std.specs.Prelude.{ℕ, ◌≡◌, ◌⊎◌, Bool, true, false, List, [], ◌∷◌, ◌++◌, map, Option, Some, None}
+use Rattle.std.specs.Prelude.{ℕ, ◌≡◌, ◌⊎◌, true, false, List, [], ◌∷◌, ◌++◌, map, Option, Some, None}
 use Rattle.flight_value.specs.Listed.{In, Distinct}
 use Rattle.flight_value.specs.Store as store
 use Rattle.flight_value.specs.declared.key.Key.{Key}
@@ -15,7 +15,7 @@ use Rattle.flight_state.specs.Local.{Seen}
 use Rattle.flight_emit.specs.declared.work.Due.{Due}
 use Rattle.flight_emit.specs.declared.work.Due.TheVariants as due
 use Rattle.flight_emit.specs.Sheet.{Drawn, composite, as_array, Parts, value_at, values_of, Sheet, filled, opening, id_on, homes_on, root}
-use Rattle.flight_emit.specs.Good.{IsPlainKind, Entries, IsGood, HasShape}
+use Rattle.flight_emit.specs.Good.{IsPlainKind, IsGood, HasShape}
 use Rattle.flight_emit.specs.Whole.{Use, HasOneSlot, HasOwnRow, IsOlder}
 use Rattle.flight_emit.specs.Log.{Taken, atom_row, value_row, entries_row, task, stream_row, reference_row, Act, put, take, homes_by, places_by, sheets_by, dues_by, value_of_key, FitActs, AreNew}
 use Rattle.flight_emit.specs.Wrote.{AreDue, note_at}

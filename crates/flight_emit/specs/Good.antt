@@ -1,5 +1,5 @@
 -- When what is written on paper spells the values that are meant, and keeps each node at its home.
-use Rattle.std.specs.Prelude.{ℕ, suc, ◌≡◌, ◌<◌, ◌^◌, List, [], ◌∷◌, ◌++◌, map, length, codes, Option, Some, None}
+use Rattle.std.specs.Prelude.{ℕ, suc, ◌≡◌, ◌<◌, ◌^◌, List, [], ◌∷◌, map, length, codes, Option, Some, None}
 use Rattle.std.specs.Fmt.{decimal}
 use Rattle.flight_value.specs.Listed.{In, Distinct}
 use Rattle.flight_value.specs.Store as store

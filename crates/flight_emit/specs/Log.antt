@@ -1,5 +1,5 @@
 -- What writing a value adds, one act after another.
-use Rattle.std.specs.Prelude.{ℕ, suc, ◌+◌, ◌^◌, ◌≤◌, ◌≡◌, ◌⊎◌, List, [], ◌∷◌, ◌++◌, map, Option, Some, None, slice_get}
+use Rattle.std.specs.Prelude.{ℕ, suc, ◌+◌, ◌^◌, ◌≤◌, ◌≡◌, List, [], ◌∷◌, ◌++◌, map, Option, Some, None, slice_get}
 use Rattle.std.specs.List.{AllZip}
 use Rattle.json.specs.Token.{Token}
 use Rattle.flight_value.specs.Listed.{In}
@@ -32,7 +32,7 @@ use Rattle.flight_emit.specs.declared.work.Born.{Born}
 use Rattle.flight_emit.specs.declared.work.Due.{Due}
 use Rattle.flight_emit.specs.declared.work.Due.TheVariants as due
 use Rattle.flight_emit.specs.declared.work.Work.{Work}
-use Rattle.flight_emit.specs.Sheet.{Drawn, leaf, composite, as_object, reference_parts, tree_of, Sheet, filled, opening, root}
+use Rattle.flight_emit.specs.Sheet.{leaf, composite, as_object, reference_parts, tree_of, Sheet, filled, opening, root}
 use Rattle.flight_emit.specs.Good.{Gives, IsNode, IsLeaf, IsPlainKind}
 use Rattle.flight_emit.specs.Whole.{IsBoundPlace, HasOneSlot}
 

@@ -1,5 +1,5 @@
 -- The nodes and the slots that a writer goes through.
-use Rattle.std.specs.Prelude.{ℕ, zero, suc, ◌≡◌, ◌≤◌, ◌^◌, List, [], ◌∷◌, ◌++◌, map, Option, Some, None, slice_get, option_and_then}
+use Rattle.std.specs.Prelude.{ℕ, ◌≡◌, ◌≤◌, ◌^◌, List, [], map, Option, Some, slice_get, option_and_then}
 use Rattle.flight_value.specs.Graph as graph
 use Rattle.flight_value.specs.Store as store
 use Rattle.flight_value.specs.Store.{Label}
@@ -8,7 +8,6 @@ use Rattle.flight_value.specs.declared.graph.Node.TheVariants as node
 use Rattle.flight_value.specs.declared.graph.Slot.{Slot}
 use Rattle.flight_value.specs.declared.key.Key.{Key}
 use Rattle.flight_value.specs.declared.key.Key.TheVariants as key
-use Rattle.flight_value.specs.declared.made.Made.{Made}
 use Rattle.flight_value.specs.declared.made.MadeKind.{MadeKind}
 use Rattle.flight_value.specs.declared.made.MadeKind.TheVariants as kind
 use Rattle.flight_value.specs.declared.made.Tree.{Tree}
@@ -17,7 +16,6 @@ use Rattle.flight_render.specs.declared.root.Ground.{Ground}
 use Rattle.flight_render.specs.Values.{tree_of, outcomes, node_in}
 use Rattle.flight_render.specs.Jobs.{Value, shown}
 use Rattle.flight_render.specs.Plain.{label_of_kind}
-use Rattle.std.specs.Fmt.{decimal}
 use Rattle.flight_value.specs.Listed.{In}
 use Rattle.flight_eval.specs.declared.body.Body.{Body}
 use Rattle.flight_render.specs.Valid.{IsNamed}
@@ -129,10 +127,10 @@ pub record AreSlots (g : Ground) (bodies : List Body) (k : Key) (slots : List Va
   pub named : (t : Tree) → In (shown t) slots → IsNamed g (look bodies) t
   pub met : (w : Value) → In w slots → Met g (seen_of bodies) (value_of_key k) w
 
--- the names of an array's first items
-abbrev pub indices : ℕ → List (List ℕ)
-indices zero = []
-indices (suc n) = indices n ++ decimal n ∷ []
+-- no promise: a promise in a source's value holds its own slot
+abbrev pub IsPlainNode : Node → Type 0
+IsPlainNode (node.Promise held) = ⊥
+IsPlainNode n = Unit {0}
 
 -- a key that values have
 abbrev pub IsValueKey : Key → Type 0

@@ -1,13 +1,11 @@
 -- All that the value of a task adds, on paper: sheets, homes, births, and what each new id is for.
-use Rattle.std.specs.Prelude.{ℕ, suc, ◌+◌, ◌<◌, ◌≡◌, ◌⊎◌, Bool, true, false, List, [], ◌∷◌, ◌++◌, map, length, Option, Some, None, slice_get}
+use Rattle.std.specs.Prelude.{ℕ, suc, ◌<◌, ◌≡◌, ◌⊎◌, Bool, true, false, List, [], ◌∷◌, ◌++◌, map, Option, Some, None, slice_get}
 use Rattle.flight_value.specs.Listed.{In, Distinct}
 use Rattle.flight_value.specs.Store as store
 use Rattle.flight_value.specs.Store.{Label, Shape}
-use Rattle.flight_value.specs.declared.graph.Atom.{Atom}
 use Rattle.flight_value.specs.declared.graph.Atom.TheVariants as atom
 use Rattle.flight_value.specs.declared.key.Key.{Key}
 use Rattle.flight_value.specs.declared.key.Key.TheVariants as key
-use Rattle.flight_value.specs.declared.name.Name.{Name}
 use Rattle.flight_syntax.specs.declared.script.Flowing.{Flowing}
 use Rattle.flight_text.specs.declared.mark.Ref.{Ref}
 use Rattle.flight_row.specs.declared.row.RowKind.{RowKind}
@@ -21,8 +19,8 @@ use Rattle.flight_render.specs.Attempt.{job_for}
 use Rattle.flight_meaning.specs.declared.place.Place.{Place}
 use Rattle.flight_meaning.specs.declared.place.Place.TheVariants as place
 use Rattle.flight_state.specs.State.{stream_for, IsAlone, next_what}
-use Rattle.flight_state.specs.Local.{Seen, IsSeen, job_seen, shape_seen, IsAtomOf, Births, MetBy, TablesHere, IsRowKey}
-use Rattle.flight_emit.specs.Sheet.{Drawn, leaf, composite, as_object, reference_parts, value_at, Sheet, filled, opening, id_on, homes_on}
+use Rattle.flight_state.specs.Local.{Seen, IsSeen, job_seen, shape_seen, Births, MetBy, TablesHere, IsRowKey}
+use Rattle.flight_emit.specs.Sheet.{Drawn, composite, as_object, reference_parts, value_at, Sheet, filled, opening, id_on, homes_on}
 use Rattle.flight_emit.specs.Good.{HasAtomRow, IsGoodSheet}
 
 -- ---- new ids

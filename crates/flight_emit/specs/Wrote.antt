@@ -1,7 +1,8 @@
 -- What writing one value comes to.
-use Rattle.std.specs.Prelude.{ℕ, ◌≡◌, ◌≤◌, List, [], ◌∷◌, ◌++◌, map, Option, Some, None}
+use Rattle.std.specs.Prelude.{ℕ, ◌≡◌, ◌≤◌, List, [], ◌∷◌, ◌++◌, map, codes, Option, Some, None}
 use Rattle.json.specs.Token.{Token}
 use Rattle.json.specs.Token as token
+use Rattle.flight_value.specs.Graph.{Ascend}
 use Rattle.flight_value.specs.Listed.{In}
 use Rattle.flight_value.specs.declared.key.Key.{Key}
 use Rattle.flight_text.specs.declared.mark.Ref.{Ref}
@@ -10,7 +11,7 @@ use Rattle.flight_render.specs.Jobs.{Value}
 use Rattle.flight_meaning.specs.declared.place.Place.{Place}
 use Rattle.flight_meaning.specs.Meaning.{token_label}
 use Rattle.flight_payload.specs.Tree.{depth}
-use Rattle.flight_payload.specs.Written.{token_of, mark_token, tokens_of, IsWritablePlace, IsWritable}
+use Rattle.flight_payload.specs.Written.{token_of, mark_token, tokens_of, IsWritablePlace, IsWritable, IsKey}
 use Rattle.flight_state.specs.Local.{Seen, shape_seen}
 use Rattle.flight_emit.specs.declared.work.Due.{Due}
 use Rattle.flight_emit.specs.declared.work.Due.TheVariants as due
@@ -74,6 +75,20 @@ pub record WroteParts (g : Ground) (seen : Seen) (v : Value) (form : Form) (r : 
   pub placed : (k : Key) (a : Ref) → In (k, a) (places_by acts) → In (k, a) (homes_of r parts)
   pub writable : AllWritable parts
   pub shallow : AllWithin levels parts
+
+-- the tokens before a part: a property's name
+abbrev pub name_tokens : Form → List ℕ → List Token
+name_tokens as_object name = token.key name ∷ []
+name_tokens form name = []
+
+abbrev pub element_parts : Drawn → Drawn → Drawn → Parts
+element_parts tag key props = part_and (codes "type") tag (part_and (codes "key") key (part_and (codes "props") props no_parts))
+
+-- what a form needs to be read again: names that ascend, and an element's key that is null or a text
+abbrev pub IsReadableForm : Form → Parts → Type 0
+IsReadableForm as_array parts = Unit {0}
+IsReadableForm as_object parts = Ascend (names_in parts)
+IsReadableForm as_element parts = (tag : Drawn) × (key : Drawn) × (props : Drawn) × (parts ≡ element_parts tag key props) × IsKey (tree_of key)
 
 -- the tokens around a composite's parts
 abbrev pub opens : Form → List Token

@@ -75,7 +75,12 @@ pub fn write_home(work: &mut Work, sort: Sort, at: &Ref) -> Result<(), Memory>
 }
 
 /// Writes the promise of a source. Its task is born where it is met first.
-pub fn write_source(alloc: Global, home: &mut Home, work: &mut Work, source: u32) -> Result<(), Memory>
+pub fn write_source(
+    alloc: Global,
+    home: &mut Home,
+    work: &mut Work,
+    source: u32,
+) -> Result<(), Memory>
     requires ready { IsReady (stage home.old work.old) }
     ensures extends { Extends home.old home.new }
     ensures wrote { OnOk result ((g : Ground) (seen : Seen) → WroteLeaf g seen (shown (tree.Promise source)) (stage home.old work.old) (stage home.new work.new)) }
@@ -107,7 +112,12 @@ fn element_task(scene: &Scene, name: &Name) -> Result<What, Memory>
 }
 
 /// Writes a server element, by the row of its task, which is born where the element is met first.
-pub fn write_element(scene: &Scene, home: &mut Home, work: &mut Work, name: &Name) -> Result<(), Memory>
+pub fn write_element(
+    scene: &Scene,
+    home: &mut Home,
+    work: &mut Work,
+    name: &Name,
+) -> Result<(), Memory>
     requires ready { IsReady (stage home.old work.old) }
     requires server { IsServerNode (look scene.now.bodies.now name.now) }
     ensures extends { Extends home.old home.new }
@@ -123,7 +133,12 @@ pub fn write_element(scene: &Scene, home: &mut Home, work: &mut Work, name: &Nam
 }
 
 /// Writes a stream, by the row that opens it.
-pub fn write_stream(scene: &Scene, home: &mut Home, work: &mut Work, stream: u32) -> Result<(), Memory>
+pub fn write_stream(
+    scene: &Scene,
+    home: &mut Home,
+    work: &mut Work,
+    stream: u32,
+) -> Result<(), Memory>
     requires ready { IsReady (stage home.old work.old) }
     requires known { stream < length scene.now.ground.now.script.streams }
     ensures extends { Extends home.old home.new }

@@ -70,7 +70,13 @@ pub fn take_row(alloc: Global, home: &mut Home, work: &mut Work, key: Key) -> Re
 }
 
 /// The id of the row of a task that is born, as the home of a key.
-pub fn take_task(alloc: Global, home: &mut Home, work: &mut Work, key: Key, what: What) -> Result<u32, Memory>
+pub fn take_task(
+    alloc: Global,
+    home: &mut Home,
+    work: &mut Work,
+    key: Key,
+    what: What,
+) -> Result<u32, Memory>
     requires absent { IsNew key home.old }
     ensures extends { Extends home.old home.new }
     ensures id { IfOk result (λ id. (id ≡ work.old.next) × (id < 2 ^ 31)) }
@@ -106,7 +112,12 @@ fn symbol_row(alloc: Global, id: u32, name: &Text) -> Result<Row, Memory>
 }
 
 /// The id of the row of a symbol, as its home.
-pub fn take_symbol(alloc: Global, home: &mut Home, work: &mut Work, name: &Text) -> Result<u32, Memory>
+pub fn take_symbol(
+    alloc: Global,
+    home: &mut Home,
+    work: &mut Work,
+    name: &Text,
+) -> Result<u32, Memory>
     requires absent { IsNew (key.Symbol name.now) home.old }
     ensures extends { Extends home.old home.new }
     ensures id { IfOk result (λ id. (id ≡ work.old.next) × (id < 2 ^ 31)) }
@@ -120,7 +131,13 @@ pub fn take_symbol(alloc: Global, home: &mut Home, work: &mut Work, name: &Text)
 }
 
 /// The id of the row of a client module, as the home of its component.
-pub fn take_import(alloc: Global, home: &mut Home, work: &mut Work, client: u32, import: &Text) -> Result<u32, Memory>
+pub fn take_import(
+    alloc: Global,
+    home: &mut Home,
+    work: &mut Work,
+    client: u32,
+    import: &Text,
+) -> Result<u32, Memory>
     requires absent { IsNew (key.Client client) home.old }
     requires compact { IsModule import.now }
     ensures extends { Extends home.old home.new }
@@ -144,7 +161,13 @@ fn first_of(stream: u32, flowing: &Flowing) -> What
 }
 
 /// The id of the row that opens a stream, as its home. The task of what comes first of it is born.
-pub fn take_stream(alloc: Global, home: &mut Home, work: &mut Work, stream: u32, flowing: &Flowing) -> Result<u32, Memory>
+pub fn take_stream(
+    alloc: Global,
+    home: &mut Home,
+    work: &mut Work,
+    stream: u32,
+    flowing: &Flowing,
+) -> Result<u32, Memory>
     requires absent { IsNew (key.Stream stream) home.old }
     ensures extends { Extends home.old home.new }
     ensures id { IfOk result (λ id. (id ≡ work.old.next) × (id < 2 ^ 31)) }
@@ -161,7 +184,14 @@ pub fn take_stream(alloc: Global, home: &mut Home, work: &mut Work, stream: u32,
 }
 
 /// The id of the row of a server reference, as its home: its name, and by its row the promise of what is bound to it.
-pub fn take_reference(alloc: Global, home: &mut Home, work: &mut Work, key: Key, name: &Text, bound: Option<u32>) -> Result<u32, Memory>
+pub fn take_reference(
+    alloc: Global,
+    home: &mut Home,
+    work: &mut Work,
+    key: Key,
+    name: &Text,
+    bound: Option<u32>,
+) -> Result<u32, Memory>
     requires absent { IsNew key home.old }
     requires bound { IsBelow bound }
     ensures extends { Extends home.old home.new }
@@ -169,7 +199,8 @@ pub fn take_reference(alloc: Global, home: &mut Home, work: &mut Work, key: Key,
     ensures took { OnOk result ((v : Value) → Took (reference_row key name.now v (bound_place bound)) (stage home.old work.old) (stage home.new work.new)) }
 {
     let id = work.take_id()?;
-    work.rows.push(action_row(alloc, id, name.as_str(), bound)?)?;
+    work.rows
+        .push(action_row(alloc, id, name.as_str(), bound)?)?;
     home.put(key, whole_row(alloc, id))?;
     Ok(id)
 }

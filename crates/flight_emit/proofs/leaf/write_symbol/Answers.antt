@@ -1,4 +1,4 @@
-use Rattle.std.proofs.Common.{sym, subst, refl, ◌∷◌, []}
+use Rattle.std.proofs.Common.{subst, refl, ◌∷◌, []}
 use Rattle.std.proofs.lemmas.Result.{on_ok_weaker}
 use Rattle.flight_value.specs.Listed.{In}
 use Rattle.flight_value.specs.declared.graph.Atom.TheVariants as atom
@@ -22,14 +22,14 @@ returns-in-Some-clause-wrote c =
     let ready = c.requires.ready in
     let home = subst (λ z. In (key.Symbol z, c.in-Some.at.now) c.args.home.now) c.in_ok-copy_text.ensures c.in-Some.ensures.found in
     on_ok_weaker c.put_whole.result (λ put g seen.
-        known_found g seen (shown (tree.Atom (atom.Symbol c.args.name.now))) (atom.Symbol c.args.name.now) (key.Symbol c.args.name.now) c.in-Some.at.now
-        (stage c.args.home.now c.args.work.now) (stage c.args.home.now c.put_whole.new.self) home (ready.0 (key.Symbol c.args.name.now) c.in-Some.at.now home) refl refl (put c.args.home.now)) c.put_whole.ensures
+    known_found g seen (shown (tree.Atom (atom.Symbol c.args.name.now))) (atom.Symbol c.args.name.now) (key.Symbol c.args.name.now) c.in-Some.at.now
+    (stage c.args.home.now c.args.work.now) (stage c.args.home.now c.put_whole.new.self) home (ready.0 (key.Symbol c.args.name.now) c.in-Some.at.now home) refl refl (put c.args.home.now)) c.put_whole.ensures
 
 pub returns-clause-wrote : goal.returns-clause-wrote
 returns-clause-wrote c =
     let is_id = c.in_ok-id.ensures.id in
     on_ok_weaker c.put_whole-2.result (λ put g seen.
-        known_taken g seen (shown (tree.Atom (atom.Symbol c.args.name.now))) (atom.Symbol c.args.name.now) row.Model (key.Symbol c.args.name.now)
-        (stage c.args.home.now c.args.work.now) (stage c.take_symbol.new.home c.take_symbol.new.work) (stage c.take_symbol.new.home c.put_whole-2.new.self)
-        c.in_ok-id.ensures.took (subst (λ z. IsNew (key.Symbol z) c.args.home.now) c.in_ok-copy_text.ensures c.in_default.ensures.absent) tt tt refl refl
-        (subst (λ z. Put (token_of (place.Value (root z)) ∷ []) (stage c.take_symbol.new.home c.take_symbol.new.work) (stage c.take_symbol.new.home c.put_whole-2.new.self)) is_id.0 (put c.take_symbol.new.home))) c.put_whole-2.ensures
+    known_taken g seen (shown (tree.Atom (atom.Symbol c.args.name.now))) (atom.Symbol c.args.name.now) row.Model (key.Symbol c.args.name.now)
+    (stage c.args.home.now c.args.work.now) (stage c.take_symbol.new.home c.take_symbol.new.work) (stage c.take_symbol.new.home c.put_whole-2.new.self)
+    c.in_ok-id.ensures.took (subst (λ z. IsNew (key.Symbol z) c.args.home.now) c.in_ok-copy_text.ensures c.in_default.ensures.absent) tt tt refl refl
+    (subst (λ z. Put (token_of (place.Value (root z)) ∷ []) (stage c.take_symbol.new.home c.take_symbol.new.work) (stage c.take_symbol.new.home c.put_whole-2.new.self)) is_id.0 (put c.take_symbol.new.home))) c.put_whole-2.ensures

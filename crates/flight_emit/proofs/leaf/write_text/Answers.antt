@@ -1,12 +1,6 @@
 use Rattle.std.proofs.lemmas.Result.{on_ok_weaker}
 use Rattle.flight_emit.specs.Log.{stage}
 use Rattle.flight_emit.proofs.Leaves.{text_in_place, text_by_row}
-use Rattle.flight_emit.proofs.PartsOn.{parts_more}
-use Rattle.flight_emit.proofs.Composites.{leaf_wrote, given_wrote, composite_node, token_node, node_put}
-use Rattle.flight_emit.proofs.Known.{known_found, known_taken, source_taken, element_taken}
-use Rattle.flight_emit.proofs.Slots.{source_shaped, made_shaped, slot_met, are_indices, take_snoc}
-use Rattle.flight_emit.proofs.Finishing.{one_home, home_source, due_source, birth_source, sheet_source}
-use Rattle.flight_emit.proofs.Whole.{on_paper}
 use Rattle.flight_emit.proofs.leaf.write_text.Goals as goal
 
 pub returns-then-as_str-lt-LONG_TEXT : goal.returns-then-as_str-lt-LONG_TEXT

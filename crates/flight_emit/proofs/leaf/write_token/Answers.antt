@@ -1,4 +1,3 @@
-use Rattle.std.proofs.lemmas.Result.{on_ok_weaker}
 use Rattle.flight_emit.specs.Log.{stage}
 use Rattle.flight_emit.proofs.Leaves.{token_in_place}
 use Rattle.flight_emit.proofs.leaf.write_token.Goals as goal
