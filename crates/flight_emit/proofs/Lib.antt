@@ -1,0 +1,14 @@
+pub mod Rows
+pub mod Shapes
+pub mod Sits
+pub mod Homes
+pub mod Once
+pub mod Emitted
+pub mod Growing
+pub mod Leaves
+pub mod PartsOn
+pub mod Composites
+pub mod Known
+pub mod Slots
+pub mod Finishing
+pub mod Whole
