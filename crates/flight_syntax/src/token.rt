@@ -10,7 +10,7 @@ use flight_value::{Memory, Text};
 use std::alloc::{AllocError, AllocFailed, Global};
 
 /// What a token is.
-#[derive(Clone, Copy, PartialEq)]
+#[derive(Clone, Copy, Debug, PartialEq)]
 pub enum TokenKind {
     /// A letter or `_`, and then letters, digits and `_`; keywords too.
     Name,
@@ -113,7 +113,7 @@ impl Token {
 }
 
 /// Why a text has no tokens.
-#[derive(Clone, Copy)]
+#[derive(Clone, Copy, Debug)]
 pub enum LexKind {
     /// No token begins with the byte.
     BadByte,
@@ -125,14 +125,14 @@ pub enum LexKind {
 
 /// The first fault of a text, and where it stands, in bytes of the text: at the byte, at the literal's quote
 /// or at the number's first digit.
-#[derive(Clone, Copy)]
+#[derive(Clone, Copy, Debug)]
 pub struct LexFault {
     pub kind: LexKind,
     pub at: u32,
 }
 
 /// Why no tokens were given.
-#[derive(Clone, Copy)]
+#[derive(Clone, Copy, Debug)]
 pub enum Lexed {
     /// The text has none.
     Fault(LexFault),
