@@ -86,7 +86,7 @@ fn attribute<'a, F: Fn(bool, &'a [Lexeme]) -> Result<(Tree, &'a [Lexeme]), Stop>
     Ok((Property { name, value }, rest))
 }
 
-/// Behind the name of an attribute, its value.
+/// `=` and the value of an attribute.
 fn attribute_value<'a, F: Fn(bool, &'a [Lexeme]) -> Result<(Tree, &'a [Lexeme]), Stop>>(
     below: u32,
     read: &F,

@@ -142,7 +142,7 @@ fn chain<'a, F: Fn(bool, &'a [Lexeme]) -> Result<(Tree, &'a [Lexeme]), Stop>>(
     with_posts(alloc, below, read, atom, after)
 }
 
-/// The postfixes behind an atom, put on it. Without any it stays as it is.
+/// An atom with the postfixes after it. Without any it stays as it is.
 fn with_posts<'a, F: Fn(bool, &'a [Lexeme]) -> Result<(Tree, &'a [Lexeme]), Stop>>(
     alloc: Global,
     below: u32,

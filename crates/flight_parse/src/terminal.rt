@@ -23,7 +23,7 @@ pub fn mark(sign: Punctuator, lexemes: &[Lexeme]) -> Result<&[Lexeme], Stop>
     }
 }
 
-/// A mark behind what was read.
+/// A mark after what was read.
 pub fn ended<T: Drop>(
     value: T,
     sign: Punctuator,
