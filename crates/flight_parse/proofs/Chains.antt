@@ -131,10 +131,6 @@ read_all t [] = refl
 read_all t (plain.named n ∷ ps) = read_all (member t n) ps
 read_all t (plain.indexed a ∷ ps) = read_all (index t a) ps
 
-fails_onto : (s : Stop) (t : Tree) (r : Read (List Post)) → Fails s r → Fails s (onto t r)
-fails_onto stops.Memory t r f = tt
-fails_onto (stops.Fault deep left) t r f = ap (onto t) f
-
 abbrev chained : Reader Tree → Read Tree → Read Tree
 chained e r = r >>= λ a. onto a.0 (reader.posts 100 e a.1)
 
@@ -166,14 +162,15 @@ arm_fails s e arm w ts f = subst (Fails s) (sym (chain e arm w ts)) (fails_chain
 pub word_fails : (s : Stop) (e c : Reader Tree) (ts : List Word) → Fails s (by_word (atom_arm e c) ts) → Fails s (by_word (λ w. chain_arm e (atom_arm e c w)) ts)
 word_fails s e c ts f = subst (Fails s) (sym (chain_word e c ts)) (fails_chained s e (by_word (atom_arm e c) ts) f)
 
--- an atom was read, and its postfixes fail, or are read as well
-pub posts_fail : (s : Stop) (e c : Reader Tree) (ts after : List Word) (a : Tree)
-    → by_word (atom_arm e c) ts ≡ Ok (a, after) → Fails s (reader.posts 100 e after) → Fails s (by_word (λ w. chain_arm e (atom_arm e c w)) ts)
-posts_fail s e c ts after a f g = subst (Fails s) (sym (chain_word e c ts ∙ ap (chained e) f)) (fails_onto s a (reader.posts 100 e after) g)
+-- an atom was read: what is left to read are its postfixes
+pub with_posts : (e c : Reader Tree) (ts after : List Word) (a : Tree)
+    → by_word (atom_arm e c) ts ≡ Ok (a, after) → by_word (λ w. chain_arm e (atom_arm e c w)) ts ≡ onto a (reader.posts 100 e after)
+with_posts e c ts after a f = chain_word e c ts ∙ ap (chained e) f
 
-pub posts_read : (e c : Reader Tree) (ts after rest : List Word) (a t : Tree) (ps : List PlainPost)
-    → by_word (atom_arm e c) ts ≡ Ok (a, after) → reader.posts 100 e after ≡ Ok (map read_post ps, rest) → t ≡ plain.posted a ps → by_word (λ w. chain_arm e (atom_arm e c w)) ts ≡ Ok (t, rest)
-posts_read e c ts after rest a t ps f g is = chain_word e c ts ∙ (ap (chained e) f ∙ (ap (onto a) g ∙ ap (λ z. Ok (z, rest)) (read_all a ps ∙ sym is)))
+-- the postfixes were read as well
+pub posts_read : (e : Reader Tree) (ts rest : List Word) (a t : Tree) (ps : List PlainPost)
+    → reader.posts 100 e ts ≡ Ok (map read_post ps, rest) → t ≡ plain.posted a ps → onto a (reader.posts 100 e ts) ≡ Ok (t, rest)
+posts_read e ts rest a t ps g is = ap (onto a) g ∙ ap (λ z. Ok (z, rest)) (read_all a ps ∙ sym is)
 
 -- ---- where no level is left
 

@@ -11,7 +11,7 @@ use crate::expression::expression;
 use crate::json_value::Json;
 use crate::lexeme::{Lexeme, Name};
 use crate::stop::{Stop, unexpected};
-use crate::terminal::{behind_mark, component, lower, mark};
+use crate::terminal::{behind_mark, component, ended, lower, mark};
 use crate::tree::Tree;
 use crate::values::value;
 use flight_syntax::{Keyword, Punctuator};
@@ -129,8 +129,7 @@ fn body(alloc: Global, lexemes: &[Lexeme]) -> Result<(Tree, &[Lexeme]), Stop>
 {
     let rest = mark(Punctuator::Assign, lexemes)?;
     let (body, rest) = expression(alloc, rest)?;
-    let rest = mark(Punctuator::Semicolon, rest)?;
-    Ok((body, rest))
+    ended(body, Punctuator::Semicolon, rest)
 }
 
 /// `= value ;`.
@@ -139,8 +138,7 @@ fn import(alloc: Global, lexemes: &[Lexeme]) -> Result<(Json, &[Lexeme]), Stop>
 {
     let rest = mark(Punctuator::Assign, lexemes)?;
     let (import, rest) = value(alloc, rest)?;
-    let rest = mark(Punctuator::Semicolon, rest)?;
-    Ok((import, rest))
+    ended(import, Punctuator::Semicolon, rest)
 }
 
 /// Names in parentheses, with commas between.
@@ -152,8 +150,7 @@ fn parameters(alloc: Global, lexemes: &[Lexeme]) -> Result<(Items<Name>, &[Lexem
         return Ok((Items::new(alloc), rest));
     }
     let (params, rest) = some_parameters(alloc, rest)?;
-    let rest = mark(Punctuator::CloseParen, rest)?;
-    Ok((params, rest))
+    ended(params, Punctuator::CloseParen, rest)
 }
 
 /// One or more names with commas between.

@@ -1,28 +1,26 @@
-ghost use Rattle.std.specs.Prelude.{suc, map, option_map};
+ghost use Rattle.std.specs.Prelude.{◌≡◌, suc, map, option_map};
 ghost use Rattle.flight_syntax.specs.Lexicon.{is_key, is_mark};
 ghost use Rattle.flight_syntax.specs.Lexicon as lexicon;
 ghost use Rattle.flight_syntax.specs.Tree as tree;
 ghost use Rattle.flight_syntax.specs.declared.word.Keyword.TheVariants.{In};
-ghost use Rattle.flight_syntax.specs.declared.word.Punctuator.TheVariants.{OpenBracket, CloseBracket, OpenBrace, CloseBrace, Comma, Assign, Greater};
-ghost use Rattle.flight_grammar.specs.Reading.{both, made, behind, closed, by_word, by_arm, more, first_and};
+ghost use Rattle.flight_syntax.specs.declared.word.Punctuator.TheVariants.{OpenBracket, CloseBracket, OpenBrace, Assign};
+ghost use Rattle.flight_grammar.specs.Reading.{both, made, behind, by_word, by_arm};
 ghost use Rattle.flight_grammar.specs.Reader as reader;
-ghost use Rattle.flight_parse.specs.Code.{words, placed, tree_of, property_of, entry_of, post_of, read_post, postfix, at_level, Gives, Fails};
+ghost use Rattle.flight_parse.specs.Code.{words, tree_of, post_of, posted, read_post, postfix, at_level, Gives, Fails};
 
-use crate::build::{binary, for_in, if_else, let_in, paren, posted, throw};
-use crate::lexeme::{Lexeme, Name};
+use crate::below::{boxed_below, closed_boxed, closed_expression};
+use crate::element::element_rest;
+use crate::lexeme::Lexeme;
+use crate::list::{entries, items, properties};
 use crate::simple::{constant, simple_atom};
 use crate::stop::{Stop, refused, too_deep, unexpected};
-use crate::tag::{
-    bare, closing, joined, more_parts, no_child, starts_child, starts_given, starts_name,
-    starts_post, starts_text,
-};
+use crate::tag::{no_child, starts_post};
 use crate::terminal::{
-    any_name, behind_key, behind_mark, date, key, lower, mark, negative, operator, plain,
-    property_name, symbol,
+    any_name, behind_key, behind_mark, date, key, lower, mark, negative, operator, plain, symbol,
 };
-use crate::tree::{Entry, Post, Property, Tree};
+use crate::tree::{Post, Tree};
 use flight_syntax::{Keyword, Op, Punctuator};
-use sqlite_items::Items;
+use sqlite_items::{Boxed, Items};
 use std::alloc::Global;
 
 /// An expression of at most 100 levels.
@@ -89,32 +87,6 @@ fn one_more<'a, F: Fn(bool, &'a [Lexeme]) -> Result<(Tree, &'a [Lexeme]), Stop>>
     }
 }
 
-/// An expression of the level below.
-fn expression_below<'a, F: Fn(bool, &'a [Lexeme]) -> Result<(Tree, &'a [Lexeme]), Stop>>(
-    below: u32,
-    read: &F,
-    lexemes: &'a [Lexeme],
-) -> Result<(Tree, &'a [Lexeme]), Stop>
-    requires callable { F.IsAlwaysCallable read.now }
-    requires reads { (child : _) (ls : _) (r : _) → F.post read.now child ls r → Gives (λ x. (tree_of x.0, words x.1.now)) r (at_level child below (words ls.now)) }
-    ensures { Gives (λ x. (tree_of x.0, words x.1.now)) result (reader.expression below (words lexemes.now)) }
-{
-    read(false, lexemes)
-}
-
-/// A child element of the level below.
-fn child_below<'a, F: Fn(bool, &'a [Lexeme]) -> Result<(Tree, &'a [Lexeme]), Stop>>(
-    below: u32,
-    read: &F,
-    lexemes: &'a [Lexeme],
-) -> Result<(Tree, &'a [Lexeme]), Stop>
-    requires callable { F.IsAlwaysCallable read.now }
-    requires reads { (child : _) (ls : _) (r : _) → F.post read.now child ls r → Gives (λ x. (tree_of x.0, words x.1.now)) r (at_level child below (words ls.now)) }
-    ensures { Gives (λ x. (tree_of x.0, words x.1.now)) result (reader.child_element below (words lexemes.now)) }
-{
-    read(true, lexemes)
-}
-
 /// An expression, where one level is left above `below`.
 fn level<'a, F: Fn(bool, &'a [Lexeme]) -> Result<(Tree, &'a [Lexeme]), Stop>>(
     alloc: Global,
@@ -166,9 +138,36 @@ fn chain<'a, F: Fn(bool, &'a [Lexeme]) -> Result<(Tree, &'a [Lexeme]), Stop>>(
     ensures { Gives (λ x. (tree_of x.0, words x.1.now)) result
         (by_word (λ word. reader.chain_arm (reader.expression below) (reader.atom_arm (reader.expression below) (reader.child_element below) word)) (words lexemes.now)) }
 {
-    let (atom, rest) = atom(alloc, below, read, lexemes)?;
-    let (posts, rest) = posts(alloc, below, read, rest)?;
-    Ok((posted(alloc, atom, posts)?, rest))
+    let (atom, after) = atom(alloc, below, read, lexemes)?;
+    with_posts(alloc, below, read, atom, after)
+}
+
+/// An atom with the postfixes after it. Without any it stays as it is.
+fn with_posts<'a, F: Fn(bool, &'a [Lexeme]) -> Result<(Tree, &'a [Lexeme]), Stop>>(
+    alloc: Global,
+    below: u32,
+    read: &F,
+    atom: Tree,
+    lexemes: &'a [Lexeme],
+) -> Result<(Tree, &'a [Lexeme]), Stop>
+    requires callable { F.IsAlwaysCallable read.now }
+    requires reads { (child : _) (ls : _) (r : _) → F.post read.now child ls r → Gives (λ x. (tree_of x.0, words x.1.now)) r (at_level child below (words ls.now)) }
+    ensures { Gives (λ x. (tree_of x.0, words x.1.now)) result
+        (made (reader.posted (tree_of atom)) (reader.posts 100 (reader.expression below)) (words lexemes.now)) }
+{
+    if !starts_post(lexemes) {
+        return Ok((atom, lexemes));
+    }
+    let of = Boxed::new(alloc, atom)?;
+    let (posts, rest) = posts(alloc, below, read, lexemes)?;
+    Ok((postfixed(of, posts), rest))
+}
+
+/// An expression with its postfixes.
+fn postfixed(of: Boxed<Tree>, posts: Items<Post>) -> Tree
+    ensures { tree_of result ≡ posted (tree_of of) (map post_of posts) }
+{
+    Tree::Postfixed { of, posts }
 }
 
 /// Behind `let`.
@@ -184,59 +183,62 @@ fn let_rest<'a, F: Fn(bool, &'a [Lexeme]) -> Result<(Tree, &'a [Lexeme]), Stop>>
         (made (λ p. tree.let_in p.0 p.1.0 p.1.1) (reader.let_rest (reader.expression below)) (words lexemes.now)) }
 {
     let (name, rest) = lower(lexemes)?;
-    let ((value, then), rest) = let_parts(below, read, rest)?;
-    Ok((let_in(alloc, name, value, then)?, rest))
+    let ((value, then), rest) = let_parts(alloc, below, read, rest)?;
+    Ok((Tree::Let { name, value, then }, rest))
 }
 
 /// `= value in then`.
 fn let_parts<'a, F: Fn(bool, &'a [Lexeme]) -> Result<(Tree, &'a [Lexeme]), Stop>>(
+    alloc: Global,
     below: u32,
     read: &F,
     lexemes: &'a [Lexeme],
-) -> Result<((Tree, Tree), &'a [Lexeme]), Stop>
+) -> Result<((Boxed<Tree>, Boxed<Tree>), &'a [Lexeme]), Stop>
     requires callable { F.IsAlwaysCallable read.now }
     requires reads { (child : _) (ls : _) (r : _) → F.post read.now child ls r → Gives (λ x. (tree_of x.0, words x.1.now)) r (at_level child below (words ls.now)) }
     ensures { Gives (λ x. ((tree_of x.0.0, tree_of x.0.1), words x.1.now)) result
         (behind (is_mark Assign) (both (reader.expression below) (λ v. behind (is_key In) (reader.expression below))) (words lexemes.now)) }
 {
     let rest = mark(Punctuator::Assign, lexemes)?;
-    let (value, rest) = expression_below(below, read, rest)?;
-    let (then, rest) = behind_keyword(below, read, Keyword::In, rest)?;
+    let (value, rest) = boxed_below(alloc, below, read, rest)?;
+    let (then, rest) = behind_keyword(alloc, below, read, Keyword::In, rest)?;
     Ok(((value, then), rest))
 }
 
 /// An expression behind a keyword.
 fn behind_keyword<'a, F: Fn(bool, &'a [Lexeme]) -> Result<(Tree, &'a [Lexeme]), Stop>>(
+    alloc: Global,
     below: u32,
     read: &F,
     keyword: Keyword,
     lexemes: &'a [Lexeme],
-) -> Result<(Tree, &'a [Lexeme]), Stop>
+) -> Result<(Boxed<Tree>, &'a [Lexeme]), Stop>
     requires callable { F.IsAlwaysCallable read.now }
     requires reads { (child : _) (ls : _) (r : _) → F.post read.now child ls r → Gives (λ x. (tree_of x.0, words x.1.now)) r (at_level child below (words ls.now)) }
     ensures { Gives (λ x. (tree_of x.0, words x.1.now)) result
         (behind (is_key keyword) (reader.expression below) (words lexemes.now)) }
 {
     let rest = key(keyword, lexemes)?;
-    expression_below(below, read, rest)
+    boxed_below(alloc, below, read, rest)
 }
 
 /// Two expressions, each behind a keyword.
 fn behind_keywords<'a, F: Fn(bool, &'a [Lexeme]) -> Result<(Tree, &'a [Lexeme]), Stop>>(
+    alloc: Global,
     below: u32,
     read: &F,
     first: Keyword,
     second: Keyword,
     lexemes: &'a [Lexeme],
-) -> Result<((Tree, Tree), &'a [Lexeme]), Stop>
+) -> Result<((Boxed<Tree>, Boxed<Tree>), &'a [Lexeme]), Stop>
     requires callable { F.IsAlwaysCallable read.now }
     requires reads { (child : _) (ls : _) (r : _) → F.post read.now child ls r → Gives (λ x. (tree_of x.0, words x.1.now)) r (at_level child below (words ls.now)) }
     ensures { Gives (λ x. ((tree_of x.0.0, tree_of x.0.1), words x.1.now)) result
         (behind (is_key first) (both (reader.expression below) (λ v. behind (is_key second) (reader.expression below))) (words lexemes.now)) }
 {
     let rest = key(first, lexemes)?;
-    let (one, rest) = expression_below(below, read, rest)?;
-    let (other, rest) = behind_keyword(below, read, second, rest)?;
+    let (one, rest) = boxed_below(alloc, below, read, rest)?;
+    let (other, rest) = behind_keyword(alloc, below, read, second, rest)?;
     Ok(((one, other), rest))
 }
 
@@ -252,9 +254,16 @@ fn if_rest<'a, F: Fn(bool, &'a [Lexeme]) -> Result<(Tree, &'a [Lexeme]), Stop>>(
     ensures { Gives (λ x. (tree_of x.0, words x.1.now)) result
         (made (λ p. tree.if_else p.0 p.1.0 p.1.1) (reader.if_rest (reader.expression below)) (words lexemes.now)) }
 {
-    let (test, rest) = expression_below(below, read, lexemes)?;
-    let ((yes, other), rest) = behind_keywords(below, read, Keyword::Then, Keyword::Else, rest)?;
-    Ok((if_else(alloc, test, yes, other)?, rest))
+    let (test, rest) = boxed_below(alloc, below, read, lexemes)?;
+    let ((yes, no), rest) = behind_keywords(
+        alloc,
+        below,
+        read,
+        Keyword::Then,
+        Keyword::Else,
+        rest,
+    )?;
+    Ok((Tree::If { test, yes, no }, rest))
 }
 
 /// Behind `for`.
@@ -270,8 +279,15 @@ fn for_rest<'a, F: Fn(bool, &'a [Lexeme]) -> Result<(Tree, &'a [Lexeme]), Stop>>
         (made (λ p. tree.for_in p.0 p.1.0 p.1.1) (reader.for_rest (reader.expression below)) (words lexemes.now)) }
 {
     let (name, rest) = lower(lexemes)?;
-    let ((over, give), rest) = behind_keywords(below, read, Keyword::In, Keyword::Give, rest)?;
-    Ok((for_in(alloc, name, over, give)?, rest))
+    let ((over, give), rest) = behind_keywords(
+        alloc,
+        below,
+        read,
+        Keyword::In,
+        Keyword::Give,
+        rest,
+    )?;
+    Ok((Tree::For { name, over, give }, rest))
 }
 
 /// Behind `throw`.
@@ -286,8 +302,8 @@ fn throw_rest<'a, F: Fn(bool, &'a [Lexeme]) -> Result<(Tree, &'a [Lexeme]), Stop
     ensures { Gives (λ x. (tree_of x.0, words x.1.now)) result
         (made tree.throw (reader.expression below) (words lexemes.now)) }
 {
-    let (value, rest) = expression_below(below, read, lexemes)?;
-    Ok((throw(alloc, value)?, rest))
+    let (value, rest) = boxed_below(alloc, below, read, lexemes)?;
+    Ok((Tree::Throw(value), rest))
 }
 
 /// The postfixes behind an atom, at most 100.
@@ -513,20 +529,21 @@ fn paren_rest<'a, F: Fn(bool, &'a [Lexeme]) -> Result<(Tree, &'a [Lexeme]), Stop
     ensures { Gives (λ x. (tree_of x.0, words x.1.now)) result
         (made reader.paren_of (reader.paren_rest (reader.expression below)) (words lexemes.now)) }
 {
-    let (left, rest) = expression_below(below, read, lexemes)?;
-    let (right, rest) = operand(below, read, rest)?;
+    let (left, rest) = boxed_below(alloc, below, read, lexemes)?;
+    let (right, rest) = operand(alloc, below, read, rest)?;
     match right {
-        None => Ok((paren(alloc, left)?, rest)),
-        Some((op, right)) => Ok((binary(alloc, op, left, right)?, rest)),
+        None => Ok((Tree::Paren(left), rest)),
+        Some((op, right)) => Ok((Tree::Binary { op, left, right }, rest)),
     }
 }
 
 /// An operator and what stands right of it, or nothing, and `)`.
 fn operand<'a, F: Fn(bool, &'a [Lexeme]) -> Result<(Tree, &'a [Lexeme]), Stop>>(
+    alloc: Global,
     below: u32,
     read: &F,
     lexemes: &'a [Lexeme],
-) -> Result<(Option<(Op, Tree)>, &'a [Lexeme]), Stop>
+) -> Result<(Option<(Op, Boxed<Tree>)>, &'a [Lexeme]), Stop>
     requires callable { F.IsAlwaysCallable read.now }
     requires reads { (child : _) (ls : _) (r : _) → F.post read.now child ls r → Gives (λ x. (tree_of x.0, words x.1.now)) r (at_level child below (words ls.now)) }
     ensures { Gives (λ x. (option_map (λ p. (p.0, tree_of p.1)) x.0, words x.1.now)) result
@@ -536,413 +553,6 @@ fn operand<'a, F: Fn(bool, &'a [Lexeme]) -> Result<(Tree, &'a [Lexeme]), Stop>>(
         return Ok((None, rest));
     }
     let (op, rest) = operator(lexemes)?;
-    let (right, rest) = closed_expression(below, read, Punctuator::CloseParen, rest)?;
+    let (right, rest) = closed_boxed(alloc, below, read, Punctuator::CloseParen, rest)?;
     Ok((Some((op, right)), rest))
-}
-
-/// Expressions with commas between, up to `]`.
-fn items<'a, F: Fn(bool, &'a [Lexeme]) -> Result<(Tree, &'a [Lexeme]), Stop>>(
-    alloc: Global,
-    below: u32,
-    read: &F,
-    lexemes: &'a [Lexeme],
-) -> Result<(Items<Tree>, &'a [Lexeme]), Stop>
-    requires callable { F.IsAlwaysCallable read.now }
-    requires reads { (child : _) (ls : _) (r : _) → F.post read.now child ls r → Gives (λ x. (tree_of x.0, words x.1.now)) r (at_level child below (words ls.now)) }
-    ensures { Gives (λ x. (map tree_of x.0, words x.1.now)) result
-        (reader.items (reader.expression below) (words lexemes.now)) }
-{
-    if let Some(rest) = behind_mark(Punctuator::CloseBracket, lexemes) {
-        return Ok((Items::new(alloc), rest));
-    }
-    let (items, rest) = some_items(alloc, below, read, lexemes)?;
-    let rest = mark(Punctuator::CloseBracket, rest)?;
-    Ok((items, rest))
-}
-
-/// One or more expressions with commas between.
-fn some_items<'a, F: Fn(bool, &'a [Lexeme]) -> Result<(Tree, &'a [Lexeme]), Stop>>(
-    alloc: Global,
-    below: u32,
-    read: &F,
-    lexemes: &'a [Lexeme],
-) -> Result<(Items<Tree>, &'a [Lexeme]), Stop>
-    requires callable { F.IsAlwaysCallable read.now }
-    requires reads { (child : _) (ls : _) (r : _) → F.post read.now child ls r → Gives (λ x. (tree_of x.0, words x.1.now)) r (at_level child below (words ls.now)) }
-    ensures { Gives (λ x. (map tree_of x.0, words x.1.now)) result
-        (made first_and (both (reader.expression below) (λ a. more (reader.expression below))) (words lexemes.now)) }
-{
-    let (first, mut rest) = expression_below(below, read, lexemes)?;
-    let mut items = Items::new(alloc);
-    items.push(first)?;
-    for _ in 0..rest.len() {
-        let Some(after) = behind_mark(Punctuator::Comma, rest) else {
-            return Ok((items, rest));
-        };
-        let (item, after) = expression_below(below, read, after)?;
-        items.push(item)?;
-        rest = after;
-    }
-    Ok((items, rest))
-}
-
-/// Properties with commas between, up to `}`.
-fn properties<'a, F: Fn(bool, &'a [Lexeme]) -> Result<(Tree, &'a [Lexeme]), Stop>>(
-    alloc: Global,
-    below: u32,
-    read: &F,
-    lexemes: &'a [Lexeme],
-) -> Result<(Items<Property>, &'a [Lexeme]), Stop>
-    requires callable { F.IsAlwaysCallable read.now }
-    requires reads { (child : _) (ls : _) (r : _) → F.post read.now child ls r → Gives (λ x. (tree_of x.0, words x.1.now)) r (at_level child below (words ls.now)) }
-    ensures { Gives (λ x. (map property_of x.0, words x.1.now)) result
-        (reader.properties (reader.expression below) (words lexemes.now)) }
-{
-    if let Some(rest) = behind_mark(Punctuator::CloseBrace, lexemes) {
-        return Ok((Items::new(alloc), rest));
-    }
-    let (properties, rest) = some_properties(alloc, below, read, lexemes)?;
-    let rest = mark(Punctuator::CloseBrace, rest)?;
-    Ok((properties, rest))
-}
-
-/// One or more properties with commas between.
-fn some_properties<'a, F: Fn(bool, &'a [Lexeme]) -> Result<(Tree, &'a [Lexeme]), Stop>>(
-    alloc: Global,
-    below: u32,
-    read: &F,
-    lexemes: &'a [Lexeme],
-) -> Result<(Items<Property>, &'a [Lexeme]), Stop>
-    requires callable { F.IsAlwaysCallable read.now }
-    requires reads { (child : _) (ls : _) (r : _) → F.post read.now child ls r → Gives (λ x. (tree_of x.0, words x.1.now)) r (at_level child below (words ls.now)) }
-    ensures { Gives (λ x. (map property_of x.0, words x.1.now)) result
-        (made first_and (both (reader.property (reader.expression below)) (λ a. more (reader.property (reader.expression below)))) (words lexemes.now)) }
-{
-    let (first, mut rest) = property(alloc, below, read, lexemes)?;
-    let mut properties = Items::new(alloc);
-    properties.push(first)?;
-    for _ in 0..rest.len() {
-        let Some(after) = behind_mark(Punctuator::Comma, rest) else {
-            return Ok((properties, rest));
-        };
-        let (property, after) = property(alloc, below, read, after)?;
-        properties.push(property)?;
-        rest = after;
-    }
-    Ok((properties, rest))
-}
-
-/// A property.
-fn property<'a, F: Fn(bool, &'a [Lexeme]) -> Result<(Tree, &'a [Lexeme]), Stop>>(
-    alloc: Global,
-    below: u32,
-    read: &F,
-    lexemes: &'a [Lexeme],
-) -> Result<(Property, &'a [Lexeme]), Stop>
-    requires callable { F.IsAlwaysCallable read.now }
-    requires reads { (child : _) (ls : _) (r : _) → F.post read.now child ls r → Gives (λ x. (tree_of x.0, words x.1.now)) r (at_level child below (words ls.now)) }
-    ensures { Gives (λ x. (property_of x.0, words x.1.now)) result
-        (reader.property (reader.expression below) (words lexemes.now)) }
-{
-    let (name, rest) = property_name(alloc, lexemes)?;
-    let rest = mark(Punctuator::Colon, rest)?;
-    let (value, rest) = expression_below(below, read, rest)?;
-    Ok((Property { name, value }, rest))
-}
-
-/// Entries with commas between, up to `]`.
-fn entries<'a, F: Fn(bool, &'a [Lexeme]) -> Result<(Tree, &'a [Lexeme]), Stop>>(
-    alloc: Global,
-    below: u32,
-    read: &F,
-    lexemes: &'a [Lexeme],
-) -> Result<(Items<Entry>, &'a [Lexeme]), Stop>
-    requires callable { F.IsAlwaysCallable read.now }
-    requires reads { (child : _) (ls : _) (r : _) → F.post read.now child ls r → Gives (λ x. (tree_of x.0, words x.1.now)) r (at_level child below (words ls.now)) }
-    ensures { Gives (λ x. (map entry_of x.0, words x.1.now)) result
-        (reader.entries (reader.expression below) (words lexemes.now)) }
-{
-    if let Some(rest) = behind_mark(Punctuator::CloseBracket, lexemes) {
-        return Ok((Items::new(alloc), rest));
-    }
-    let (entries, rest) = some_entries(alloc, below, read, lexemes)?;
-    let rest = mark(Punctuator::CloseBracket, rest)?;
-    Ok((entries, rest))
-}
-
-/// One or more entries with commas between.
-fn some_entries<'a, F: Fn(bool, &'a [Lexeme]) -> Result<(Tree, &'a [Lexeme]), Stop>>(
-    alloc: Global,
-    below: u32,
-    read: &F,
-    lexemes: &'a [Lexeme],
-) -> Result<(Items<Entry>, &'a [Lexeme]), Stop>
-    requires callable { F.IsAlwaysCallable read.now }
-    requires reads { (child : _) (ls : _) (r : _) → F.post read.now child ls r → Gives (λ x. (tree_of x.0, words x.1.now)) r (at_level child below (words ls.now)) }
-    ensures { Gives (λ x. (map entry_of x.0, words x.1.now)) result
-        (made first_and (both (reader.entry (reader.expression below)) (λ a. more (reader.entry (reader.expression below)))) (words lexemes.now)) }
-{
-    let (first, mut rest) = entry(below, read, lexemes)?;
-    let mut entries = Items::new(alloc);
-    entries.push(first)?;
-    for _ in 0..rest.len() {
-        let Some(after) = behind_mark(Punctuator::Comma, rest) else {
-            return Ok((entries, rest));
-        };
-        let (entry, after) = entry(below, read, after)?;
-        entries.push(entry)?;
-        rest = after;
-    }
-    Ok((entries, rest))
-}
-
-/// An entry.
-fn entry<'a, F: Fn(bool, &'a [Lexeme]) -> Result<(Tree, &'a [Lexeme]), Stop>>(
-    below: u32,
-    read: &F,
-    lexemes: &'a [Lexeme],
-) -> Result<(Entry, &'a [Lexeme]), Stop>
-    requires callable { F.IsAlwaysCallable read.now }
-    requires reads { (child : _) (ls : _) (r : _) → F.post read.now child ls r → Gives (λ x. (tree_of x.0, words x.1.now)) r (at_level child below (words ls.now)) }
-    ensures { Gives (λ x. (entry_of x.0, words x.1.now)) result
-        (reader.entry (reader.expression below) (words lexemes.now)) }
-{
-    let rest = mark(Punctuator::OpenBracket, lexemes)?;
-    let (key, rest) = expression_below(below, read, rest)?;
-    let (value, rest) = entry_value(below, read, rest)?;
-    Ok((Entry { key, value }, rest))
-}
-
-/// `, value]`.
-fn entry_value<'a, F: Fn(bool, &'a [Lexeme]) -> Result<(Tree, &'a [Lexeme]), Stop>>(
-    below: u32,
-    read: &F,
-    lexemes: &'a [Lexeme],
-) -> Result<(Tree, &'a [Lexeme]), Stop>
-    requires callable { F.IsAlwaysCallable read.now }
-    requires reads { (child : _) (ls : _) (r : _) → F.post read.now child ls r → Gives (λ x. (tree_of x.0, words x.1.now)) r (at_level child below (words ls.now)) }
-    ensures { Gives (λ x. (tree_of x.0, words x.1.now)) result
-        (behind (is_mark Comma) (closed (reader.expression below) (is_mark CloseBracket)) (words lexemes.now)) }
-{
-    let rest = mark(Punctuator::Comma, lexemes)?;
-    closed_expression(below, read, Punctuator::CloseBracket, rest)
-}
-
-/// An expression and a mark.
-fn closed_expression<'a, F: Fn(bool, &'a [Lexeme]) -> Result<(Tree, &'a [Lexeme]), Stop>>(
-    below: u32,
-    read: &F,
-    sign: Punctuator,
-    lexemes: &'a [Lexeme],
-) -> Result<(Tree, &'a [Lexeme]), Stop>
-    requires callable { F.IsAlwaysCallable read.now }
-    requires reads { (child : _) (ls : _) (r : _) → F.post read.now child ls r → Gives (λ x. (tree_of x.0, words x.1.now)) r (at_level child below (words ls.now)) }
-    ensures { Gives (λ x. (tree_of x.0, words x.1.now)) result
-        (closed (reader.expression below) (is_mark sign) (words lexemes.now)) }
-{
-    let (value, rest) = expression_below(below, read, lexemes)?;
-    let rest = mark(sign, rest)?;
-    Ok((value, rest))
-}
-
-/// Behind `<`, an element.
-fn element_rest<'a, F: Fn(bool, &'a [Lexeme]) -> Result<(Tree, &'a [Lexeme]), Stop>>(
-    alloc: Global,
-    below: u32,
-    read: &F,
-    lexemes: &'a [Lexeme],
-) -> Result<(Tree, &'a [Lexeme]), Stop>
-    requires callable { F.IsAlwaysCallable read.now }
-    requires reads { (child : _) (ls : _) (r : _) → F.post read.now child ls r → Gives (λ x. (tree_of x.0, words x.1.now)) r (at_level child below (words ls.now)) }
-    ensures { Gives (λ x. (tree_of x.0, words x.1.now)) result
-        (made reader.element_of (reader.element_rest (reader.expression below) (reader.child_element below)) (words lexemes.now)) }
-{
-    let (tag, rest) = plain(lexemes)?;
-    let (attributes, rest) = attributes(alloc, below, read, rest)?;
-    let (children, rest) = inside(alloc, below, read, &tag, rest)?;
-    Ok((
-        Tree::Element {
-            tag,
-            attributes,
-            children,
-        },
-        rest,
-    ))
-}
-
-/// Attributes, one after another.
-fn attributes<'a, F: Fn(bool, &'a [Lexeme]) -> Result<(Tree, &'a [Lexeme]), Stop>>(
-    alloc: Global,
-    below: u32,
-    read: &F,
-    lexemes: &'a [Lexeme],
-) -> Result<(Items<Property>, &'a [Lexeme]), Stop>
-    requires callable { F.IsAlwaysCallable read.now }
-    requires reads { (child : _) (ls : _) (r : _) → F.post read.now child ls r → Gives (λ x. (tree_of x.0, words x.1.now)) r (at_level child below (words ls.now)) }
-    ensures { Gives (λ x. (map property_of x.0, words x.1.now)) result
-        (reader.attributes (reader.expression below) (words lexemes.now)) }
-{
-    let mut attributes = Items::new(alloc);
-    let mut rest = lexemes;
-    for _ in 0..lexemes.len() {
-        if !starts_name(rest) {
-            return Ok((attributes, rest));
-        }
-        let (attribute, after) = attribute(alloc, below, read, rest)?;
-        attributes.push(attribute)?;
-        rest = after;
-    }
-    Ok((attributes, rest))
-}
-
-/// An attribute.
-fn attribute<'a, F: Fn(bool, &'a [Lexeme]) -> Result<(Tree, &'a [Lexeme]), Stop>>(
-    alloc: Global,
-    below: u32,
-    read: &F,
-    lexemes: &'a [Lexeme],
-) -> Result<(Property, &'a [Lexeme]), Stop>
-    requires callable { F.IsAlwaysCallable read.now }
-    requires reads { (child : _) (ls : _) (r : _) → F.post read.now child ls r → Gives (λ x. (tree_of x.0, words x.1.now)) r (at_level child below (words ls.now)) }
-    ensures { Gives (λ x. (property_of x.0, words x.1.now)) result
-        (reader.attribute (reader.expression below) (words lexemes.now)) }
-{
-    let (first, rest) = any_name(alloc, lexemes)?;
-    let ((parts, value), rest) = attribute_rest(alloc, below, read, rest)?;
-    let name = joined(alloc, &first, parts.as_slice())?;
-    Ok((Property { name, value }, rest))
-}
-
-/// Behind the first part of an attribute's name.
-fn attribute_rest<'a, F: Fn(bool, &'a [Lexeme]) -> Result<(Tree, &'a [Lexeme]), Stop>>(
-    alloc: Global,
-    below: u32,
-    read: &F,
-    lexemes: &'a [Lexeme],
-) -> Result<((Vec<Name>, Tree), &'a [Lexeme]), Stop>
-    requires callable { F.IsAlwaysCallable read.now }
-    requires reads { (child : _) (ls : _) (r : _) → F.post read.now child ls r → Gives (λ x. (tree_of x.0, words x.1.now)) r (at_level child below (words ls.now)) }
-    ensures { Gives (λ x. ((map placed x.0.0.items, tree_of x.0.1), words x.1.now)) result
-        (both reader.more_parts (λ ps. behind (is_mark Assign) (reader.given (reader.expression below))) (words lexemes.now)) }
-{
-    let (parts, rest) = more_parts(alloc, lexemes)?;
-    let rest = mark(Punctuator::Assign, rest)?;
-    let (value, rest) = given(below, read, rest)?;
-    Ok(((parts, value), rest))
-}
-
-/// A text or an expression in braces.
-fn given<'a, F: Fn(bool, &'a [Lexeme]) -> Result<(Tree, &'a [Lexeme]), Stop>>(
-    below: u32,
-    read: &F,
-    lexemes: &'a [Lexeme],
-) -> Result<(Tree, &'a [Lexeme]), Stop>
-    requires callable { F.IsAlwaysCallable read.now }
-    requires reads { (child : _) (ls : _) (r : _) → F.post read.now child ls r → Gives (λ x. (tree_of x.0, words x.1.now)) r (at_level child below (words ls.now)) }
-    ensures { Gives (λ x. (tree_of x.0, words x.1.now)) result
-        (reader.given (reader.expression below) (words lexemes.now)) }
-{
-    if starts_text(lexemes) {
-        bare(lexemes)
-    } else {
-        braces(below, read, lexemes)
-    }
-}
-
-/// An expression in braces.
-fn braces<'a, F: Fn(bool, &'a [Lexeme]) -> Result<(Tree, &'a [Lexeme]), Stop>>(
-    below: u32,
-    read: &F,
-    lexemes: &'a [Lexeme],
-) -> Result<(Tree, &'a [Lexeme]), Stop>
-    requires callable { F.IsAlwaysCallable read.now }
-    requires reads { (child : _) (ls : _) (r : _) → F.post read.now child ls r → Gives (λ x. (tree_of x.0, words x.1.now)) r (at_level child below (words ls.now)) }
-    ensures { Gives (λ x. (tree_of x.0, words x.1.now)) result
-        (behind (is_mark OpenBrace) (closed (reader.expression below) (is_mark CloseBrace)) (words lexemes.now)) }
-{
-    let rest = mark(Punctuator::OpenBrace, lexemes)?;
-    let (value, rest) = expression_below(below, read, rest)?;
-    let rest = mark(Punctuator::CloseBrace, rest)?;
-    Ok((value, rest))
-}
-
-/// Behind the attributes: the end of the element, or its children and its closing tag.
-fn inside<'a, F: Fn(bool, &'a [Lexeme]) -> Result<(Tree, &'a [Lexeme]), Stop>>(
-    alloc: Global,
-    below: u32,
-    read: &F,
-    tag: &Name,
-    lexemes: &'a [Lexeme],
-) -> Result<(Items<Tree>, &'a [Lexeme]), Stop>
-    requires callable { F.IsAlwaysCallable read.now }
-    requires reads { (child : _) (ls : _) (r : _) → F.post read.now child ls r → Gives (λ x. (tree_of x.0, words x.1.now)) r (at_level child below (words ls.now)) }
-    ensures { Gives (λ x. (map tree_of x.0, words x.1.now)) result
-        (reader.inside (reader.expression below) (reader.child_element below) (placed tag.now) (words lexemes.now)) }
-{
-    if let Some(rest) = behind_mark(Punctuator::SlashGreater, lexemes) {
-        return Ok((Items::new(alloc), rest));
-    }
-    closed_children(alloc, below, read, tag, lexemes)
-}
-
-/// `>`, children and the closing tag.
-fn closed_children<'a, F: Fn(bool, &'a [Lexeme]) -> Result<(Tree, &'a [Lexeme]), Stop>>(
-    alloc: Global,
-    below: u32,
-    read: &F,
-    tag: &Name,
-    lexemes: &'a [Lexeme],
-) -> Result<(Items<Tree>, &'a [Lexeme]), Stop>
-    requires callable { F.IsAlwaysCallable read.now }
-    requires reads { (child : _) (ls : _) (r : _) → F.post read.now child ls r → Gives (λ x. (tree_of x.0, words x.1.now)) r (at_level child below (words ls.now)) }
-    ensures { Gives (λ x. (map tree_of x.0, words x.1.now)) result
-        (behind (is_mark Greater) (made reader.inside_of (both (reader.children (reader.expression below) (reader.child_element below)) (λ cs. reader.closing (placed tag.now)))) (words lexemes.now)) }
-{
-    let rest = mark(Punctuator::Greater, lexemes)?;
-    let (children, rest) = children(alloc, below, read, rest)?;
-    let rest = closing(tag, rest)?;
-    Ok((children, rest))
-}
-
-/// Children, one after another.
-fn children<'a, F: Fn(bool, &'a [Lexeme]) -> Result<(Tree, &'a [Lexeme]), Stop>>(
-    alloc: Global,
-    below: u32,
-    read: &F,
-    lexemes: &'a [Lexeme],
-) -> Result<(Items<Tree>, &'a [Lexeme]), Stop>
-    requires callable { F.IsAlwaysCallable read.now }
-    requires reads { (child : _) (ls : _) (r : _) → F.post read.now child ls r → Gives (λ x. (tree_of x.0, words x.1.now)) r (at_level child below (words ls.now)) }
-    ensures { Gives (λ x. (map tree_of x.0, words x.1.now)) result
-        (reader.children (reader.expression below) (reader.child_element below) (words lexemes.now)) }
-{
-    let mut children = Items::new(alloc);
-    let mut rest = lexemes;
-    for _ in 0..lexemes.len() {
-        if !starts_child(rest) {
-            return Ok((children, rest));
-        }
-        let (child, after) = child(below, read, rest)?;
-        children.push(child)?;
-        rest = after;
-    }
-    Ok((children, rest))
-}
-
-/// A child.
-fn child<'a, F: Fn(bool, &'a [Lexeme]) -> Result<(Tree, &'a [Lexeme]), Stop>>(
-    below: u32,
-    read: &F,
-    lexemes: &'a [Lexeme],
-) -> Result<(Tree, &'a [Lexeme]), Stop>
-    requires callable { F.IsAlwaysCallable read.now }
-    requires reads { (child : _) (ls : _) (r : _) → F.post read.now child ls r → Gives (λ x. (tree_of x.0, words x.1.now)) r (at_level child below (words ls.now)) }
-    ensures { Gives (λ x. (tree_of x.0, words x.1.now)) result
-        (reader.child (reader.expression below) (reader.child_element below) (words lexemes.now)) }
-{
-    if starts_given(lexemes) {
-        given(below, read, lexemes)
-    } else {
-        child_below(below, read, lexemes)
-    }
 }

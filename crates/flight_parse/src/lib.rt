@@ -5,12 +5,14 @@
 //! here.
 #![tactic(auto)]
 
-mod build;
+mod below;
 mod declaration;
+mod element;
 mod expression;
 mod fault;
 mod json_value;
 mod lexeme;
+mod list;
 mod numeral;
 mod read;
 mod simple;

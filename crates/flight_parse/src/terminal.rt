@@ -23,6 +23,19 @@ pub fn mark(sign: Punctuator, lexemes: &[Lexeme]) -> Result<&[Lexeme], Stop>
     }
 }
 
+/// A mark after what was read.
+pub fn ended<T: Drop>(
+    value: T,
+    sign: Punctuator,
+    lexemes: &[Lexeme],
+) -> Result<(T, &[Lexeme]), Stop>
+    ensures value { IfOk result (λ x. x.0 ≡ value) }
+    ensures read { Gives (λ x. (tt, words x.1.now)) result (want (is_mark sign) (words lexemes.now)) }
+{
+    let rest = mark(sign, lexemes)?;
+    Ok((value, rest))
+}
+
 /// A keyword.
 pub fn key(keyword: Keyword, lexemes: &[Lexeme]) -> Result<&[Lexeme], Stop>
     ensures { Gives (λ x. (tt, words x.now)) result (want (is_key keyword) (words lexemes.now)) }

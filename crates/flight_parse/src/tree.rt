@@ -15,7 +15,7 @@ pub struct Property {
 #[derive(Drop)]
 #[cycle(tree)]
 pub struct Entry {
-    pub key: Tree,
+    pub key: Boxed<Tree>,
     pub value: Tree,
 }
 

@@ -25,9 +25,6 @@ use Rattle.flight_print.proofs.Trees.{grouped_five}
 
 -- ---- the last part
 
-pub both_parts : (new first old a b whole : List ℕ) → first ≡ old ++ a → new ≡ first ++ b → a ++ b ≡ whole → new ≡ old ++ whole
-both_parts new first old a b whole f h e = h ∙ (ap (λ z. z ++ b) f ∙ (append_assoc old a b ∙ ap (λ z. old ++ z) e))
-
 pub tail_one : {A E : Type 0} (r : Result A E) (new old a whole : List ℕ) → OnOk r (new ≡ old ++ a) → a ≡ whole → OnOk r (new ≡ old ++ whole)
 tail_one (Ok x) new old a whole h e = h ∙ ap (λ z. old ++ z) e
 tail_one (Err x) new old a whole h e = tt
@@ -41,9 +38,6 @@ tail_three r new second first old a b c whole f g h e = tail_two r new second ol
 
 pub tail_four : {A E : Type 0} (r : Result A E) (new third second first old a b c d whole : List ℕ) → first ≡ old ++ a → second ≡ first ++ b → third ≡ second ++ c → OnOk r (new ≡ third ++ d) → a ++ (b ++ (c ++ d)) ≡ whole → OnOk r (new ≡ old ++ whole)
 tail_four r new third second first old a b c d whole f g h k e = tail_three r new third second old (a ++ b) c d whole (g ∙ (ap (λ z. z ++ b) f ∙ append_assoc old a b)) h k (append_assoc a b (c ++ d) ∙ e)
-
-pub tail_five : {A E : Type 0} (r : Result A E) (new fourth third second first old a b c d e whole : List ℕ) → first ≡ old ++ a → second ≡ first ++ b → third ≡ second ++ c → fourth ≡ third ++ d → OnOk r (new ≡ fourth ++ e) → a ++ (b ++ (c ++ (d ++ e))) ≡ whole → OnOk r (new ≡ old ++ whole)
-tail_five r new fourth third second first old a b c d e whole f g h k l m = tail_four r new fourth third second old (a ++ b) c d e whole (g ∙ (ap (λ z. z ++ b) f ∙ append_assoc old a b)) h k l (append_assoc a b (c ++ (d ++ e)) ∙ m)
 
 -- ---- loops
 
@@ -156,38 +150,62 @@ module _ (names scope : List (List ℕ)) where
   action_text e number bound name is none same =
       ap (λ z. word (codes "action") ++ word z) same ∙ sym (ap (λ z. term_text names scope (term z)) (is ∙ ap (expr.Action number) none) ∙ ap (term_text names scope) (term-Action number None))
 
-  pub action_with_text : (e : Expr) (number : ℕ) (bound : Option (List Expr)) (name : List ℕ) (items slice : List Expr) → e ≡ expr.Action number bound → bound ≡ Some items → slice ≡ items → name ≡ name_at names number
+  action_with_parts : (e : Expr) (number : ℕ) (bound : Option (List Expr)) (name : List ℕ) (items slice : List Expr) → e ≡ expr.Action number bound → bound ≡ Some items → slice ≡ items → name ≡ name_at names number
       → word (codes "action") ++ (word name ++ (word (codes "with") ++ (word (codes "[") ++ (items_in false slice ++ word (codes "]"))))) ≡ term_text names scope (term e)
-  action_with_text e number bound name items slice is some all same =
+  action_with_parts e number bound name items slice is some all same =
       ap₂ (λ y z. word (codes "action") ++ (word y ++ (word (codes "with") ++ (word (codes "[") ++ (items_in false z ++ word (codes "]")))))) same all
       ∙ sym (ap (λ z. term_text names scope (term z)) (is ∙ ap (expr.Action number) some) ∙ ap (term_text names scope) (term-Action number (Some items)))
 
-  pub paren_text : (e inside inner : Expr) → e ≡ expr.Paren inside → inner ≡ inside → word (codes "(") ++ (term_text names scope (term inner) ++ word (codes ")")) ≡ term_text names scope (term e)
-  paren_text e inside inner is same = ap (λ z. word (codes "(") ++ (term_text names scope (term z) ++ word (codes ")"))) same ∙ sym (ap (λ z. term_text names scope (term z)) is ∙ ap (term_text names scope) (term-Paren inside))
+  pub action_with_text : (e : Expr) (number : ℕ) (bound : Option (List Expr)) (name : List ℕ) (items slice : List Expr) → e ≡ expr.Action number bound → bound ≡ Some items → slice ≡ items → name ≡ name_at names number
+      → (word (codes "action") ++ word name) ++ (word (codes "with") ++ (word (codes "[") ++ (items_in false slice ++ word (codes "]")))) ≡ term_text names scope (term e)
+  action_with_text e number bound name items slice is some all same =
+      append_assoc (word (codes "action")) (word name) (word (codes "with") ++ (word (codes "[") ++ (items_in false slice ++ word (codes "]")))) ∙ action_with_parts e number bound name items slice is some all same
 
-  pub binary_text : (e left right l r : Expr) (o : Op) (mark : List ℕ) → e ≡ expr.Binary o left right → l ≡ left → r ≡ right → mark ≡ op_text o
+  pub paren_text : (e inside inner : Expr) → e ≡ expr.Paren inside → inner ≡ inside → (word (codes "(") ++ term_text names scope (term inner)) ++ word (codes ")") ≡ term_text names scope (term e)
+  paren_text e inside inner is same = append_assoc (word (codes "(")) (term_text names scope (term inner)) (word (codes ")")) ∙ ap (λ z. word (codes "(") ++ (term_text names scope (term z) ++ word (codes ")"))) same ∙ sym (ap (λ z. term_text names scope (term z)) is ∙ ap (term_text names scope) (term-Paren inside))
+
+  binary_parts : (e left right l r : Expr) (o : Op) (mark : List ℕ) → e ≡ expr.Binary o left right → l ≡ left → r ≡ right → mark ≡ op_text o
       → word (codes "(") ++ (term_text names scope (term l) ++ (word mark ++ (term_text names scope (term r) ++ word (codes ")")))) ≡ term_text names scope (term e)
-  binary_text e left right l r o mark is p q m =
+  binary_parts e left right l r o mark is p q m =
       ap (λ z. word (codes "(") ++ (term_text names scope (term z) ++ (word mark ++ (term_text names scope (term r) ++ word (codes ")"))))) p
       ∙ (ap (λ z. word (codes "(") ++ (term_text names scope (term left) ++ (word mark ++ (term_text names scope (term z) ++ word (codes ")"))))) q
       ∙ (ap (λ z. word (codes "(") ++ (term_text names scope (term left) ++ (word z ++ (term_text names scope (term right) ++ word (codes ")"))))) m
       ∙ sym (ap (λ z. term_text names scope (term z)) is ∙ ap (term_text names scope) (term-Binary o left right))))
 
+  pub binary_text : (e left right l r : Expr) (o : Op) (mark : List ℕ) → e ≡ expr.Binary o left right → l ≡ left → r ≡ right → mark ≡ op_text o
+      → (word (codes "(") ++ term_text names scope (term l)) ++ ((word mark ++ term_text names scope (term r)) ++ word (codes ")")) ≡ term_text names scope (term e)
+  binary_text e left right l r o mark is p q m =
+      let a = word (codes "(") in
+      let b = term_text names scope (term l) in
+      let close = word (codes ")") in
+      let more = term_text names scope (term r) in
+      ap (λ z. (a ++ b) ++ z) (append_assoc (word mark) more close) ∙ (append_assoc a b (word mark ++ (more ++ close)) ∙ binary_parts e left right l r o mark is p q m)
+
   element_whole : (named : Tag) (attrs : List PropExpr) (children : Terms) → word (codes "<") ++ (word (tag_name names named) ++ (attrs_in attrs ++ ending_text names scope named children)) ≡ term_text names scope (Rattle.flight_syntax.specs.Term.element named (props_of (map prop attrs)) children)
   element_whole named attrs no_terms = refl
   element_whole named attrs (term_and first rest) = refl
 
-  pub element_text : (e : Expr) (named tag : Tag) (attrs props : List PropExpr) (children cs : List Expr) (name : List ℕ) → e ≡ expr.Element named attrs children → tag ≡ named → props ≡ attrs → cs ≡ children → name ≡ tag_name names named
+  element_parts : (e : Expr) (named tag : Tag) (attrs props : List PropExpr) (children cs : List Expr) (name : List ℕ) → e ≡ expr.Element named attrs children → tag ≡ named → props ≡ attrs → cs ≡ children → name ≡ tag_name names named
       → word (codes "<") ++ (word name ++ (attrs_in props ++ ending_text names scope tag (terms_of (map term cs)))) ≡ term_text names scope (term e)
-  element_text e named tag attrs props children cs name is t p q n =
+  element_parts e named tag attrs props children cs name is t p q n =
       ap₂ (λ y z. word (codes "<") ++ (word y ++ (attrs_in z ++ ending_text names scope tag (terms_of (map term cs))))) n p
       ∙ (ap₂ (λ y z. word (codes "<") ++ (word (tag_name names named) ++ (attrs_in attrs ++ ending_text names scope y (terms_of (map term z))))) t q
       ∙ (element_whole named attrs (terms_of (map term children)) ∙ sym (ap (λ z. term_text names scope (term z)) is ∙ ap (term_text names scope) (term-Element named attrs children))))
 
-  pub ending_whole : (tag : Tag) (children : List Expr) (b : Bool) (name : List ℕ) → b ≡ (length children == 0) → b ≡ false → name ≡ tag_name names tag
+  pub element_text : (e : Expr) (named tag : Tag) (attrs props : List PropExpr) (children cs : List Expr) (name : List ℕ) → e ≡ expr.Element named attrs children → tag ≡ named → props ≡ attrs → cs ≡ children → name ≡ tag_name names named
+      → (word (codes "<") ++ word name) ++ (attrs_in props ++ ending_text names scope tag (terms_of (map term cs))) ≡ term_text names scope (term e)
+  element_text e named tag attrs props children cs name is t p q n =
+      append_assoc (word (codes "<")) (word name) (attrs_in props ++ ending_text names scope tag (terms_of (map term cs))) ∙ element_parts e named tag attrs props children cs name is t p q n
+
+  ending_parts : (tag : Tag) (children : List Expr) (b : Bool) (name : List ℕ) → b ≡ (length children == 0) → b ≡ false → name ≡ tag_name names tag
       → word (codes ">") ++ (children_in children ++ (word (codes "</") ++ (word name ++ word (codes ">")))) ≡ ending_text names scope tag (terms_of (map term children))
-  ending_whole tag [] b name e f n = absurd (false≢true (sym f ∙ e))
-  ending_whole tag (x ∷ xs) b name e f n = ap (λ z. word (codes ">") ++ (children_in (x ∷ xs) ++ (word (codes "</") ++ (word z ++ word (codes ">"))))) n
+  ending_parts tag [] b name e f n = absurd (false≢true (sym f ∙ e))
+  ending_parts tag (x ∷ xs) b name e f n = ap (λ z. word (codes ">") ++ (children_in (x ∷ xs) ++ (word (codes "</") ++ (word z ++ word (codes ">"))))) n
+
+  pub ending_whole : (tag : Tag) (children : List Expr) (b : Bool) (name : List ℕ) → b ≡ (length children == 0) → b ≡ false → name ≡ tag_name names tag
+      → word (codes ">") ++ (children_in children ++ ((word (codes "</") ++ word name) ++ word (codes ">"))) ≡ ending_text names scope tag (terms_of (map term children))
+  ending_whole tag children b name e f n =
+      ap (λ z. word (codes ">") ++ (children_in children ++ z)) (append_assoc (word (codes "</")) (word name) (word (codes ">"))) ∙ ending_parts tag children b name e f n
 
 -- ---- programs
 

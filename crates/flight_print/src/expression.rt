@@ -26,27 +26,19 @@ pub fn write_expr<'a>(
         Expr::Let { name, value, then } => {
             write_word(out, "let")?;
             write_local(alloc, out, names, locals, name, "=", value.get())?;
-            write_word(out, "in")?;
-            write_inner(alloc, out, names, locals, name, then.get())
+            write_inner(alloc, out, names, locals, "in", name, then.get())
         }
         Expr::If { test, yes, no } => {
-            write_word(out, "if")?;
-            write_expr(alloc, out, names, locals, test.get())?;
-            write_word(out, "then")?;
-            write_expr(alloc, out, names, locals, yes.get())?;
-            write_word(out, "else")?;
-            write_expr(alloc, out, names, locals, no.get())
+            write_after(alloc, out, names, locals, "if", test.get())?;
+            write_after(alloc, out, names, locals, "then", yes.get())?;
+            write_after(alloc, out, names, locals, "else", no.get())
         }
         Expr::For { name, over, give } => {
             write_word(out, "for")?;
             write_local(alloc, out, names, locals, name, "in", over.get())?;
-            write_word(out, "give")?;
-            write_inner(alloc, out, names, locals, name, give.get())
+            write_inner(alloc, out, names, locals, "give", name, give.get())
         }
-        Expr::Throw(value) => {
-            write_word(out, "throw")?;
-            write_expr(alloc, out, names, locals, value.get())
-        }
+        Expr::Throw(value) => write_after(alloc, out, names, locals, "throw", value.get()),
         Expr::Postfixed { of, postfixes } => {
             write_expr(alloc, out, names, locals, of.get())?;
             write_postfixes(alloc, out, names, locals, postfixes.as_slice())
@@ -68,8 +60,7 @@ pub fn write_expr<'a>(
         Expr::Promise(name) => write_named(out, "promise", name),
         Expr::Stream(name) => write_named(out, "stream", name),
         Expr::Action { action, bound } => {
-            write_word(out, "action")?;
-            write_word(out, declared_name(names, *action))?;
+            write_two(out, "action", declared_name(names, *action))?;
             match bound {
                 None => Ok(()),
                 Some(bound) => {
@@ -79,15 +70,12 @@ pub fn write_expr<'a>(
             }
         }
         Expr::Paren(inside) => {
-            write_word(out, "(")?;
-            write_expr(alloc, out, names, locals, inside.get())?;
+            write_after(alloc, out, names, locals, "(", inside.get())?;
             write_word(out, ")")
         }
         Expr::Binary { op, left, right } => {
-            write_word(out, "(")?;
-            write_expr(alloc, out, names, locals, left.get())?;
-            write_word(out, op_word(*op))?;
-            write_expr(alloc, out, names, locals, right.get())?;
+            write_after(alloc, out, names, locals, "(", left.get())?;
+            write_after(alloc, out, names, locals, op_word(*op), right.get())?;
             write_word(out, ")")
         }
         Expr::Element {
@@ -95,8 +83,7 @@ pub fn write_expr<'a>(
             attrs,
             children,
         } => {
-            write_word(out, "<")?;
-            write_word(out, tag_word(names, tag))?;
+            write_two(out, "<", tag_word(names, tag))?;
             write_attrs(alloc, out, names, locals, attrs.as_slice())?;
             write_ending(alloc, out, names, locals, tag, children.as_slice())
         }
@@ -107,8 +94,31 @@ pub fn write_expr<'a>(
 fn write_named(out: &mut String, keyword: &str, name: &Text) -> Result<(), Memory>
     ensures { OnOk result (string_bytes out.new ≡ string_bytes out.old ++ (word keyword.now ++ word name.now)) }
 {
-    write_word(out, keyword)?;
-    write_word(out, name.as_str())
+    write_two(out, keyword, name.as_str())
+}
+
+/// Appends two words.
+fn write_two(out: &mut String, first: &str, second: &str) -> Result<(), Memory>
+    ensures { OnOk result (string_bytes out.new ≡ string_bytes out.old ++ (word first.now ++ word second.now)) }
+{
+    write_word(out, first)?;
+    write_word(out, second)
+}
+
+/// Appends a word and an expression.
+#[cycle(print)]
+fn write_after<'a>(
+    alloc: Global,
+    out: &mut String,
+    names: &Names<'a>,
+    locals: &[&'a Text],
+    before: &str,
+    expr: &'a Expr,
+) -> Result<(), Memory>
+    ensures { OnOk result (string_bytes out.new ≡ string_bytes out.old ++ (word before.now ++ term_text (declared_names names.now.declared.now) (scope_of names.now locals.now) (term expr.now))) }
+{
+    write_word(out, before)?;
+    write_expr(alloc, out, names, locals, expr)
 }
 
 /// Appends the name of a variable, a word, and what it stands for or goes over.
@@ -129,20 +139,21 @@ fn write_local<'a>(
     write_expr(alloc, out, names, locals, value)
 }
 
-/// Appends an expression with one variable more in scope.
+/// Appends a word, and an expression with one variable more in scope.
 #[cycle(print)]
 fn write_inner<'a>(
     alloc: Global,
     out: &mut String,
     names: &Names<'a>,
     locals: &[&'a Text],
+    before: &str,
     name: &'a Text,
     expr: &'a Expr,
 ) -> Result<(), Memory>
-    ensures { OnOk result (string_bytes out.new ≡ string_bytes out.old ++ term_text (declared_names names.now.declared.now) (scope_of names.now locals.now ++ name.now ∷ []) (term expr.now)) }
+    ensures { OnOk result (string_bytes out.new ≡ string_bytes out.old ++ (word before.now ++ term_text (declared_names names.now.declared.now) (scope_of names.now locals.now ++ name.now ∷ []) (term expr.now))) }
 {
     let inner = with_local(alloc, locals, name)?;
-    write_expr(alloc, out, names, inner.as_slice(), expr)
+    write_after(alloc, out, names, inner.as_slice(), before, expr)
 }
 
 /// Appends postfixes.
@@ -176,8 +187,7 @@ fn write_postfix<'a>(
     match postfix {
         Postfix::Member(name) => write_named(out, ".", name),
         Postfix::Index(at) => {
-            write_word(out, "[")?;
-            write_expr(alloc, out, names, locals, at)?;
+            write_after(alloc, out, names, locals, "[", at)?;
             write_word(out, "]")
         }
     }
@@ -263,8 +273,7 @@ fn write_prop<'a>(
     ensures { OnOk result (string_bytes out.new ≡ string_bytes out.old ++ prop_text (declared_names names.now.declared.now) (scope_of names.now locals.now) (prop one.now)) }
 {
     write_literal(out, &one.name)?;
-    write_word(out, ":")?;
-    write_expr(alloc, out, names, locals, &one.value)
+    write_after(alloc, out, names, locals, ":", &one.value)
 }
 
 /// Appends the entries of a map with commas between, in brackets.
@@ -312,10 +321,8 @@ fn write_pair<'a>(
 ) -> Result<(), Memory>
     ensures { OnOk result (string_bytes out.new ≡ string_bytes out.old ++ pair_text (declared_names names.now.declared.now) (scope_of names.now locals.now) (pair one.now)) }
 {
-    write_word(out, "[")?;
-    write_expr(alloc, out, names, locals, &one.key)?;
-    write_word(out, ",")?;
-    write_expr(alloc, out, names, locals, &one.value)?;
+    write_after(alloc, out, names, locals, "[", &one.key)?;
+    write_after(alloc, out, names, locals, ",", &one.value)?;
     write_word(out, "]")
 }
 
@@ -380,8 +387,7 @@ fn write_braced<'a>(
 ) -> Result<(), Memory>
     ensures { OnOk result (string_bytes out.new ≡ string_bytes out.old ++ braced (term_text (declared_names names.now.declared.now) (scope_of names.now locals.now) (term value.now))) }
 {
-    write_word(out, "{")?;
-    write_expr(alloc, out, names, locals, value)?;
+    write_after(alloc, out, names, locals, "{", value)?;
     write_word(out, "}")
 }
 
@@ -402,8 +408,7 @@ fn write_ending<'a>(
     }
     write_word(out, ">")?;
     write_children(alloc, out, names, locals, children)?;
-    write_word(out, "</")?;
-    write_word(out, tag_word(names, tag))?;
+    write_two(out, "</", tag_word(names, tag))?;
     write_word(out, ">")
 }
 

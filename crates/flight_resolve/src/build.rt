@@ -10,38 +10,24 @@ ghost use Rattle.flight_resolve.specs.Names.{IsKnown, all_of, names_of};
 use crate::body::{Body, variable};
 use crate::tables::find;
 use flight_parse::Name;
-use flight_syntax::{Expr, Op, Postfix, PropExpr, Tag, is_lower};
+use flight_syntax::{Expr, Postfix, PropExpr, Tag, is_lower};
 use flight_value::{Atom, Memory};
 use sqlite_items::{Boxed, Items};
 use std::alloc::Global;
 
 /// `let name = value in then`.
-pub fn let_in(alloc: Global, name: &Name, value: Expr, then: Expr) -> Result<Expr, Memory>
+pub fn let_in(name: &Name, value: Boxed<Expr>, then: Boxed<Expr>) -> Result<Expr, Memory>
     ensures { IfOk result (λ e. term e ≡ terms.let_in name.now.bytes (term value) (term then)) }
 {
     let name = name.bytes.clone()?;
-    let value = Boxed::new(alloc, value)?;
-    let then = Boxed::new(alloc, then)?;
     Ok(Expr::Let { name, value, then })
 }
 
-/// `if test then yes else no`.
-pub fn if_else(alloc: Global, test: Expr, yes: Expr, other: Expr) -> Result<Expr, Memory>
-    ensures { IfOk result (λ e. term e ≡ terms.if_else (term test) (term yes) (term other)) }
-{
-    let test = Boxed::new(alloc, test)?;
-    let yes = Boxed::new(alloc, yes)?;
-    let no = Boxed::new(alloc, other)?;
-    Ok(Expr::If { test, yes, no })
-}
-
 /// `for name in over give give`.
-pub fn for_in(alloc: Global, name: &Name, over: Expr, give: Expr) -> Result<Expr, Memory>
+pub fn for_in(name: &Name, over: Boxed<Expr>, give: Boxed<Expr>) -> Result<Expr, Memory>
     ensures { IfOk result (λ e. term e ≡ terms.for_in name.now.bytes (term over) (term give)) }
 {
     let name = name.bytes.clone()?;
-    let over = Boxed::new(alloc, over)?;
-    let give = Boxed::new(alloc, give)?;
     Ok(Expr::For { name, over, give })
 }
 
@@ -53,11 +39,10 @@ pub fn throw(alloc: Global, value: Expr) -> Result<Expr, Memory>
 }
 
 /// An expression with its postfixes.
-pub fn postfixed(alloc: Global, of: Expr, postfixes: Items<Postfix>) -> Result<Expr, Memory>
-    ensures { IfOk result (λ e. term e ≡ terms.posted (term of) (map post postfixes)) }
+pub fn postfixed(of: Boxed<Expr>, postfixes: Items<Postfix>) -> Expr
+    ensures { term result ≡ terms.posted (term of) (map post postfixes) }
 {
-    let of = Boxed::new(alloc, of)?;
-    Ok(Expr::Postfixed { of, postfixes })
+    Expr::Postfixed { of, postfixes }
 }
 
 /// A literal.
@@ -72,15 +57,6 @@ pub fn paren(alloc: Global, inside: Expr) -> Result<Expr, Memory>
     ensures { IfOk result (λ e. term e ≡ terms.paren (term inside)) }
 {
     Ok(Expr::Paren(Boxed::new(alloc, inside)?))
-}
-
-/// An operator between two expressions.
-pub fn binary(alloc: Global, op: Op, left: Expr, right: Expr) -> Result<Expr, Memory>
-    ensures { IfOk result (λ e. term e ≡ terms.binary op (term left) (term right)) }
-{
-    let left = Boxed::new(alloc, left)?;
-    let right = Boxed::new(alloc, right)?;
-    Ok(Expr::Binary { op, left, right })
 }
 
 /// A variable, the innermost of its name.

@@ -33,14 +33,14 @@ pub fn own_fault(
         ++ (faults.keys_of (is_named tag.now.bytes (faults.servers (all_of body.now))) (faults.property_names (props_of (map property_of attributes.now))) ++ rest))))) }
 {
     let names = property_names(alloc, attributes)?;
-    let unknown = unknown_tag(body, tag)?;
-    let twice = repeated(alloc, names.as_slice())?;
-    let beside = beside_children(children, names.as_slice())?;
     let keys = keys_of(is_server(body, tag), names.as_slice())?;
-    Ok(first_of(
-        unknown,
-        first_of(twice, first_of(beside, first_of(keys, parts))),
-    ))
+    let parts = first_of(keys, parts);
+    let beside = beside_children(children, names.as_slice())?;
+    let parts = first_of(beside, parts);
+    let twice = repeated(alloc, names.as_slice())?;
+    let parts = first_of(twice, parts);
+    let unknown = unknown_tag(body, tag)?;
+    Ok(first_of(unknown, parts))
 }
 
 /// The first attribute `children`, beside children.

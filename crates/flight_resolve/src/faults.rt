@@ -331,5 +331,5 @@ fn in_entry<'a>(
     requires { IsKnown body.now }
     ensures { IfOk result (λ fault. IsFirst fault (faults.faults (all_of body.now) (scope_of body.now locals.now) (entry_of entry.now).0 ++ faults.faults (all_of body.now) (scope_of body.now locals.now) (entry_of entry.now).1)) }
 {
-    in_two(alloc, body, locals, &entry.key, &entry.value)
+    in_two(alloc, body, locals, entry.key.get(), &entry.value)
 }

@@ -9,13 +9,13 @@ ghost use Rattle.flight_resolve.specs.Posts.{meaning_post};
 
 use crate::body::{Body, with_local};
 use crate::build::{
-    action, action_with, atom, binary, client, element, for_in, if_else, let_in, paren, postfixed,
-    throw, variable_of,
+    action, action_with, atom, client, element, for_in, let_in, paren, postfixed, throw,
+    variable_of,
 };
 use flight_parse::{Entry, Name, Post, Property, Tree};
 use flight_syntax::{Expr, PairExpr, Postfix, PropExpr};
 use flight_value::Memory;
-use sqlite_items::Items;
+use sqlite_items::{Boxed, Items};
 use std::alloc::Global;
 
 /// What an expression means, with numbers in place of names. A name that is unknown is number 0.
@@ -32,16 +32,17 @@ pub fn expr_of<'a>(
     match tree {
         Tree::Let { name, value, then } => {
             let (value, then) = local_of(alloc, body, locals, name, value.get(), then.get())?;
-            let_in(alloc, name, value, then)
+            let_in(name, value, then)
         }
         Tree::If { test, yes, no } => {
             let test = expr_of(alloc, body, locals, test.get())?;
-            let (yes, other) = two_of(alloc, body, locals, yes.get(), no.get())?;
-            if_else(alloc, test, yes, other)
+            let test = Boxed::new(alloc, test)?;
+            let (yes, no) = two_of(alloc, body, locals, yes.get(), no.get())?;
+            Ok(Expr::If { test, yes, no })
         }
         Tree::For { name, over, give } => {
             let (over, give) = local_of(alloc, body, locals, name, over.get(), give.get())?;
-            for_in(alloc, name, over, give)
+            for_in(name, over, give)
         }
         Tree::Throw(value) => throw(alloc, expr_of(alloc, body, locals, value.get())?),
         Tree::Postfixed { of, posts } => {
@@ -72,7 +73,8 @@ pub fn expr_of<'a>(
         Tree::Paren(inside) => paren(alloc, expr_of(alloc, body, locals, inside.get())?),
         Tree::Binary { op, left, right } => {
             let (left, right) = two_of(alloc, body, locals, left.get(), right.get())?;
-            binary(alloc, *op, left, right)
+            let op = *op;
+            Ok(Expr::Binary { op, left, right })
         }
         Tree::Element {
             tag,
@@ -95,14 +97,15 @@ fn local_of<'a>(
     name: &'a Name,
     value: &'a Tree,
     then: &'a Tree,
-) -> Result<(Expr, Expr), Memory>
+) -> Result<(Boxed<Expr>, Boxed<Expr>), Memory>
     requires { IsKnown body.now }
     ensures { IfOk result (λ p. (term p.0 ≡ meaning (all_of body.now) (names_of body.now locals.now) (tree_of value.now)) × (term p.1 ≡ meaning (all_of body.now) (names_of body.now locals.now ++ name.now.bytes ∷ []) (tree_of then.now))) }
 {
     let value = expr_of(alloc, body, locals, value)?;
+    let value = Boxed::new(alloc, value)?;
     let inner = with_local(alloc, locals, name)?;
     let then = expr_of(alloc, body, inner.as_slice(), then)?;
-    Ok((value, then))
+    Ok((value, Boxed::new(alloc, then)?))
 }
 
 /// Two expressions.
@@ -113,13 +116,14 @@ fn two_of<'a>(
     locals: &[&'a Name],
     one: &'a Tree,
     other: &'a Tree,
-) -> Result<(Expr, Expr), Memory>
+) -> Result<(Boxed<Expr>, Boxed<Expr>), Memory>
     requires { IsKnown body.now }
     ensures { IfOk result (λ p. (term p.0 ≡ meaning (all_of body.now) (names_of body.now locals.now) (tree_of one.now)) × (term p.1 ≡ meaning (all_of body.now) (names_of body.now locals.now) (tree_of other.now))) }
 {
     let one = expr_of(alloc, body, locals, one)?;
+    let one = Boxed::new(alloc, one)?;
     let other = expr_of(alloc, body, locals, other)?;
-    Ok((one, other))
+    Ok((one, Boxed::new(alloc, other)?))
 }
 
 /// Expressions.
@@ -154,8 +158,9 @@ fn postfixed_of<'a>(
     ensures { IfOk result (λ e. term e ≡ meaning (all_of body.now) (names_of body.now locals.now) (posted (tree_of of.now) (map post_of posts.now))) }
 {
     let of = expr_of(alloc, body, locals, of)?;
+    let of = Boxed::new(alloc, of)?;
     let postfixes = postfixes_of(alloc, body, locals, posts)?;
-    postfixed(alloc, of, postfixes)
+    Ok(postfixed(of, postfixes))
 }
 
 /// Postfixes.
@@ -244,8 +249,8 @@ fn prop_of<'a>(
     ensures name { IfOk result (λ p. (prop p).0 ≡ (property_of property.now).0.bytes) }
     ensures value { IfOk result (λ p. (prop p).1 ≡ meaning (all_of body.now) (names_of body.now locals.now) (property_of property.now).1) }
 {
-    let value = expr_of(alloc, body, locals, &property.value)?;
     let name = property.name.bytes.clone()?;
+    let value = expr_of(alloc, body, locals, &property.value)?;
     Ok(PropExpr { name, value })
 }
 
@@ -261,6 +266,9 @@ fn pair_of<'a>(
     ensures key { IfOk result (λ p. (pair p).0 ≡ meaning (all_of body.now) (names_of body.now locals.now) (entry_of entry.now).0) }
     ensures value { IfOk result (λ p. (pair p).1 ≡ meaning (all_of body.now) (names_of body.now locals.now) (entry_of entry.now).1) }
 {
-    let (key, value) = two_of(alloc, body, locals, &entry.key, &entry.value)?;
+    let key = expr_of(alloc, body, locals, entry.key.get())?;
+    let key = Boxed::new(alloc, key)?;
+    let value = expr_of(alloc, body, locals, &entry.value)?;
+    let key = key.into_inner();
     Ok(PairExpr { key, value })
 }

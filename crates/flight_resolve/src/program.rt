@@ -32,12 +32,26 @@ pub fn first_fault(
     requires { AreTables tables.now (map declaration_of declared.now) }
     ensures { IfOk result (λ fault. IsFirst fault (faults.program_faults (map declaration_of declared.now))) }
 {
-    let components = components(alloc, declared)?;
-    let actions = actions(alloc, declared)?;
-    let components_twice = repeated(alloc, components.as_slice())?;
-    let actions_twice = repeated(alloc, actions.as_slice())?;
+    let components = components_twice(alloc, declared)?;
+    let actions = actions_twice(alloc, declared)?;
     let bodies = in_declarations(alloc, declared, tables)?;
-    Ok(first_of(components_twice, first_of(actions_twice, bodies)))
+    Ok(first_of(components, first_of(actions, bodies)))
+}
+
+/// The first component whose name another has before it.
+fn components_twice(alloc: Global, declared: &[Declaration]) -> Result<Option<NameFault>, Memory>
+    ensures { IfOk result (λ fault. IsFirst fault (faults.repeated [] (faults.components (map declaration_of declared.now)))) }
+{
+    let names = components(alloc, declared)?;
+    repeated(alloc, names.as_slice())
+}
+
+/// The first action whose name another has before it.
+fn actions_twice(alloc: Global, declared: &[Declaration]) -> Result<Option<NameFault>, Memory>
+    ensures { IfOk result (λ fault. IsFirst fault (faults.repeated [] (faults.actions (map declaration_of declared.now)))) }
+{
+    let names = actions(alloc, declared)?;
+    repeated(alloc, names.as_slice())
 }
 
 /// The names of the components.
@@ -132,8 +146,7 @@ fn in_body(
     requires { AreTables tables.now (map declaration_of declared.now) }
     ensures { IfOk result (λ fault. IsFirst fault (faults.repeated [] (map placed params.now) ++ faults.faults (map declaration_of declared.now) (map placed params.now) (tree_of tree.now))) }
 {
-    let names = references(alloc, params)?;
-    let twice = repeated(alloc, names.as_slice())?;
+    let twice = params_twice(alloc, params)?;
     let numbers = positions(alloc, params)?;
     let body = Body {
         declared,
@@ -144,6 +157,14 @@ fn in_body(
     let locals = Vec::new(alloc);
     let fault = in_tree(alloc, &body, locals.as_slice(), tree)?;
     Ok(first_of(twice, fault))
+}
+
+/// The first parameter whose name another has before it.
+fn params_twice(alloc: Global, params: &[Name]) -> Result<Option<NameFault>, Memory>
+    ensures { IfOk result (λ fault. IsFirst fault (faults.repeated [] (map placed params.now))) }
+{
+    let names = references(alloc, params)?;
+    repeated(alloc, names.as_slice())
 }
 
 /// Names, each behind a reference.
@@ -215,9 +236,13 @@ fn declared_as(
     match declaration {
         Declaration::Server { name, params, body } => {
             let name = name.bytes.clone()?;
+            let names = texts(alloc, params.as_slice())?;
             let body = body_of(alloc, declared, tables, params.as_slice(), body)?;
-            let params = texts(alloc, params.as_slice())?;
-            Ok(Declared::Server { name, params, body })
+            Ok(Declared::Server {
+                name,
+                params: names,
+                body,
+            })
         }
         Declaration::Client { name, import } => {
             let name = name.bytes.clone()?;
@@ -226,9 +251,13 @@ fn declared_as(
         }
         Declaration::Action { name, params, body } => {
             let name = name.bytes.clone()?;
+            let names = texts(alloc, params.as_slice())?;
             let body = body_of(alloc, declared, tables, params.as_slice(), body)?;
-            let params = texts(alloc, params.as_slice())?;
-            Ok(Declared::Action { name, params, body })
+            Ok(Declared::Action {
+                name,
+                params: names,
+                body,
+            })
         }
     }
 }

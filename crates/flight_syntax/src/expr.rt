@@ -2,7 +2,7 @@ use flight_value::{Atom, Text};
 use sqlite_items::{Boxed, Items};
 
 /// What stands between two expressions in parentheses.
-#[derive(Clone, Copy, Debug, PartialEq, Eq)]
+#[derive(Clone, Copy)]
 pub enum Op {
     Plus,
     Minus,

@@ -10,7 +10,7 @@ use flight_value::{Memory, Text};
 use std::alloc::{AllocError, AllocFailed, Global};
 
 /// What a token is.
-#[derive(Clone, Copy, Debug, PartialEq, Eq)]
+#[derive(Clone, Copy, Debug, PartialEq)]
 pub enum TokenKind {
     /// A letter or `_`, and then letters, digits and `_`; keywords too.
     Name,
@@ -25,7 +25,7 @@ pub enum TokenKind {
 }
 
 /// A token, with where it begins and where it ends, in bytes of the text; `to` is the place behind it.
-#[derive(Clone, Copy, Debug, PartialEq, Eq)]
+#[derive(Clone, Copy)]
 pub struct Token {
     pub kind: TokenKind,
     pub from: u32,
@@ -113,7 +113,7 @@ impl Token {
 }
 
 /// Why a text has no tokens.
-#[derive(Clone, Copy, Debug, PartialEq, Eq)]
+#[derive(Clone, Copy, Debug)]
 pub enum LexKind {
     /// No token begins with the byte.
     BadByte,
@@ -125,14 +125,14 @@ pub enum LexKind {
 
 /// The first fault of a text, and where it stands, in bytes of the text: at the byte, at the literal's quote
 /// or at the number's first digit.
-#[derive(Clone, Copy, Debug, PartialEq, Eq)]
+#[derive(Clone, Copy, Debug)]
 pub struct LexFault {
     pub kind: LexKind,
     pub at: u32,
 }
 
 /// Why no tokens were given.
-#[derive(Clone, Copy, Debug, PartialEq, Eq)]
+#[derive(Clone, Copy, Debug)]
 pub enum Lexed {
     /// The text has none.
     Fault(LexFault),

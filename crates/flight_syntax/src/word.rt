@@ -1,5 +1,5 @@
 /// A keyword. No variable, component or action has its name; a property may.
-#[derive(Clone, Copy, Debug, PartialEq, Eq)]
+#[derive(Clone, Copy)]
 pub enum Keyword {
     Null,
     Undefined,
@@ -29,7 +29,7 @@ pub enum Keyword {
 }
 
 /// A mark.
-#[derive(Clone, Copy, Debug, PartialEq, Eq)]
+#[derive(Clone, Copy)]
 pub enum Punctuator {
     /// `(`.
     OpenParen,

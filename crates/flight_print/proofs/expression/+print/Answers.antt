@@ -1,22 +1,22 @@
-use Rattle.std.proofs.Common.{refl, string_bytes}
+use Rattle.std.proofs.Common.{refl, string_bytes, ap, ◌∙◌, ◌++◌}
 use Rattle.flight_print.specs.Scope.{declared_names, scope_of}
 use Rattle.flight_print.proofs.Written as written
-use Rattle.flight_print.proofs.Written.{both_parts, tail_one, tail_two, tail_three, tail_four, tail_five}
+use Rattle.flight_print.proofs.Written.{tail_one, tail_two, tail_three, tail_four}
 use Rattle.flight_print.proofs.expression.+print.Goals as goal
 
 pub write_ending-returns : goal.write_ending-returns
 write_ending-returns t c =
     let N = declared_names c.args.names.now.declared.now in
     let S = scope_of c.args.names.now c.args.locals.now in
-    tail_five c.write_word-5.result (string_bytes c.write_word-5.new.out) (string_bytes c.write_word-4.new.out) (string_bytes c.write_word-3.new.out) (string_bytes c.write_children.new.out) (string_bytes c.write_word-2.new.out) (string_bytes c.args.out.now) _ _ _ _ _ _
-    c.in_ok-write_word.ensures c.in_ok-write_children.ensures c.in_ok-write_word-2.ensures c.in_ok-write_word-3.ensures c.write_word-5.ensures
+    tail_four c.write_word-3.result (string_bytes c.write_word-3.new.out) (string_bytes c.write_two.new.out) (string_bytes c.write_children.new.out) (string_bytes c.write_word-2.new.out) (string_bytes c.args.out.now) _ _ _ _ _
+    c.in_ok-write_word.ensures c.in_ok-write_children.ensures c.in_ok-write_two.ensures c.write_word-3.ensures
     (written.ending_whole N S c.args.tag.now c.args.children.now c.is_empty.result c.tag_word.result.now c.is_empty.ensures c.if-is_empty.false c.tag_word.ensures)
 
 pub write_expr-returns-in_ok-write_expr-in-Postfixed : goal.write_expr-returns-in_ok-write_expr-in-Postfixed
 write_expr-returns-in_ok-write_expr-in-Postfixed t c =
     let N = declared_names c.args.names.now.declared.now in
     let S = scope_of c.args.names.now c.args.locals.now in
-    tail_two c.write_postfixes.result (string_bytes c.write_postfixes.new.out) (string_bytes c.write_expr-in-Postfixed.new.out) (string_bytes c.args.out.now) _ _ _ c.in_ok-write_expr-in-Postfixed.ensures c.write_postfixes.ensures
+    tail_two c.write_postfixes.result (string_bytes c.write_postfixes.new.out) (string_bytes c.write_expr.new.out) (string_bytes c.args.out.now) _ _ _ c.in_ok-write_expr-in-Postfixed.ensures c.write_postfixes.ensures
     (written.postfixed_text N S c.args.expr.now c.in-Postfixed.of c.in-Postfixed.postfixes c.as_slice.result.now c.get-in-Postfixed.result.now c.in-Postfixed.is c.get-in-Postfixed.ensures c.as_slice.ensures)
 
 pub write_expr-returns-in-Array : goal.write_expr-returns-in-Array
@@ -67,37 +67,38 @@ pub write_expr-returns-in-None : goal.write_expr-returns-in-None
 write_expr-returns-in-None t c =
     let N = declared_names c.args.names.now.declared.now in
     let S = scope_of c.args.names.now c.args.locals.now in
-    both_parts (string_bytes c.write_word-in-Action-2.new.out) (string_bytes c.write_word-in-Action.new.out) (string_bytes c.args.out.now) _ _ _ c.in_ok-write_word-in-Action.ensures c.in_ok-write_word-in-Action-2.ensures
+    c.in_ok-write_two-in-Action.ensures
+    ∙ ap (λ z. string_bytes c.args.out.now ++ z)
     (written.action_text N S c.args.expr.now c.in-Action.action c.in-Action.bound c.declared_name-in-Action.result.now c.in-Action.is c.in-None.is c.declared_name-in-Action.ensures)
 
 pub write_expr-returns-in_ok-write_word-in-Some : goal.write_expr-returns-in_ok-write_word-in-Some
 write_expr-returns-in_ok-write_word-in-Some t c =
     let N = declared_names c.args.names.now.declared.now in
     let S = scope_of c.args.names.now c.args.locals.now in
-    tail_four c.write_list-in-Some.result (string_bytes c.write_list-in-Some.new.out) (string_bytes c.write_word-in-Some.new.out) (string_bytes c.write_word-in-Action-2.new.out) (string_bytes c.write_word-in-Action.new.out) (string_bytes c.args.out.now) _ _ _ _ _
-    c.in_ok-write_word-in-Action.ensures c.in_ok-write_word-in-Action-2.ensures c.in_ok-write_word-in-Some.ensures c.write_list-in-Some.ensures
+    tail_three c.write_list-in-Some.result (string_bytes c.write_list-in-Some.new.out) (string_bytes c.write_word-in-Some.new.out) (string_bytes c.write_two.new.out) (string_bytes c.args.out.now) _ _ _ _
+    c.in_ok-write_two-in-Action.ensures c.in_ok-write_word-in-Some.ensures c.write_list-in-Some.ensures
     (written.action_with_text N S c.args.expr.now c.in-Action.action c.in-Action.bound c.declared_name-in-Action.result.now c.in-Some.bound c.as_slice-in-Some.result.now c.in-Action.is c.in-Some.is c.as_slice-in-Some.ensures c.declared_name-in-Action.ensures)
 
-pub write_expr-returns-in_ok-write_expr-in-Paren : goal.write_expr-returns-in_ok-write_expr-in-Paren
-write_expr-returns-in_ok-write_expr-in-Paren t c =
+pub write_expr-returns-in_ok-write_after-in-Paren : goal.write_expr-returns-in_ok-write_after-in-Paren
+write_expr-returns-in_ok-write_after-in-Paren t c =
     let N = declared_names c.args.names.now.declared.now in
     let S = scope_of c.args.names.now c.args.locals.now in
-    tail_three c.write_word-in-Paren-2.result (string_bytes c.write_word-in-Paren-2.new.out) (string_bytes c.write_expr-in-Paren.new.out) (string_bytes c.write_word-in-Paren.new.out) (string_bytes c.args.out.now) _ _ _ _
-    c.in_ok-write_word-in-Paren.ensures c.in_ok-write_expr-in-Paren.ensures c.write_word-in-Paren-2.ensures
+    tail_two c.write_word-in-Paren.result (string_bytes c.write_word-in-Paren.new.out) (string_bytes c.write_after-in-Paren.new.out) (string_bytes c.args.out.now) _ _ _
+    c.in_ok-write_after-in-Paren.ensures c.write_word-in-Paren.ensures
     (written.paren_text N S c.args.expr.now c.in-Paren.inside c.get-in-Paren.result.now c.in-Paren.is c.get-in-Paren.ensures)
 
-pub write_expr-returns-in_ok-write_expr-in-Binary-2 : goal.write_expr-returns-in_ok-write_expr-in-Binary-2
-write_expr-returns-in_ok-write_expr-in-Binary-2 t c =
+pub write_expr-returns-in_ok-write_after-in-Binary-2 : goal.write_expr-returns-in_ok-write_after-in-Binary-2
+write_expr-returns-in_ok-write_after-in-Binary-2 t c =
     let N = declared_names c.args.names.now.declared.now in
     let S = scope_of c.args.names.now c.args.locals.now in
-    tail_five c.write_word-in-Binary-3.result (string_bytes c.write_word-in-Binary-3.new.out) (string_bytes c.write_expr-in-Binary-2.new.out) (string_bytes c.write_word-in-Binary-2.new.out) (string_bytes c.write_expr-in-Binary.new.out) (string_bytes c.write_word-in-Binary.new.out) (string_bytes c.args.out.now) _ _ _ _ _ _
-    c.in_ok-write_word-in-Binary.ensures c.in_ok-write_expr-in-Binary.ensures c.in_ok-write_word-in-Binary-2.ensures c.in_ok-write_expr-in-Binary-2.ensures c.write_word-in-Binary-3.ensures
+    tail_three c.write_word-in-Binary.result (string_bytes c.write_word-in-Binary.new.out) (string_bytes c.write_after-in-Binary-2.new.out) (string_bytes c.write_after-in-Binary.new.out) (string_bytes c.args.out.now) _ _ _ _
+    c.in_ok-write_after-in-Binary.ensures c.in_ok-write_after-in-Binary-2.ensures c.write_word-in-Binary.ensures
     (written.binary_text N S c.args.expr.now c.in-Binary.left c.in-Binary.right c.get-in-Binary.result.now c.get-in-Binary-2.result.now c.in-Binary.op c.op_word.result.now c.in-Binary.is c.get-in-Binary.ensures c.get-in-Binary-2.ensures c.op_word.ensures)
 
 pub write_expr-returns-in_ok-write_attrs-in-Element : goal.write_expr-returns-in_ok-write_attrs-in-Element
 write_expr-returns-in_ok-write_attrs-in-Element t c =
     let N = declared_names c.args.names.now.declared.now in
     let S = scope_of c.args.names.now c.args.locals.now in
-    tail_four c.write_ending.result (string_bytes c.write_ending.new.out) (string_bytes c.write_attrs.new.out) (string_bytes c.write_word-in-Element-2.new.out) (string_bytes c.write_word-in-Element.new.out) (string_bytes c.args.out.now) _ _ _ _ _
-    c.in_ok-write_word-in-Element.ensures c.in_ok-write_word-in-Element-2.ensures c.in_ok-write_attrs-in-Element.ensures c.write_ending.ensures
+    tail_three c.write_ending.result (string_bytes c.write_ending.new.out) (string_bytes c.write_attrs.new.out) (string_bytes c.write_two-in-Element.new.out) (string_bytes c.args.out.now) _ _ _ _
+    c.in_ok-write_two-in-Element.ensures c.in_ok-write_attrs-in-Element.ensures c.write_ending.ensures
     (written.element_text N S c.args.expr.now c.in-Element.tag c.in-Element.tag c.in-Element.attrs c.as_slice-in-Element.result.now c.in-Element.children c.as_slice-in-Element-2.result.now c.tag_word.result.now c.in-Element.is refl c.as_slice-in-Element.ensures c.as_slice-in-Element-2.ensures c.tag_word.ensures)

@@ -1,4 +1,4 @@
-use Rattle.std.proofs.Common.{◌≡◌, ◌∙◌, IfOk, map, ap, sym, subst, arith, rules}
+use Rattle.std.proofs.Common.{◌≡◌, ◌∙◌, map, ap, sym, arith, rules}
 use Rattle.flight_syntax.specs.Term.{term, prop, pair, post}
 use Rattle.flight_syntax.specs.Term as terms
 use Rattle.flight_syntax.specs.Meaning.{meaning}
@@ -16,7 +16,7 @@ postfixed_of-returns t c =
     let all = all_of c.args.body.now in
     let names = names_of c.args.body.now c.args.locals.now in
     let same = ap (λ z. terms.posted z (map post c.in_ok-postfixes.postfixes)) c.in_ok-of.ensures ∙ (ap (terms.posted (meaning all names (tree_of c.args.of.now))) c.in_ok-postfixes.ensures ∙ sym (posted_meaning all names (tree_of c.args.of.now) (map post_of c.args.posts.now))) in
-    subst (λ z. IfOk c.postfixed.result (λ e. term e ≡ z)) same c.postfixed.ensures
+    c.postfixed.ensures ∙ (ap (λ z. terms.posted (term z) (map post c.in_ok-postfixes.postfixes)) c.in_ok-of-2.ensures ∙ same)
 
 pub postfixes_of-loop-post-preserved : goal.postfixes_of-loop-post-preserved
 postfixes_of-loop-post-preserved t c =

@@ -6,7 +6,7 @@ use Rattle.flight_grammar.specs.Reading.{at, behind, both, made, more, first_and
 use Rattle.flight_grammar.specs.Reader as reader
 use Rattle.flight_parse.specs.Code.{words, tree_of}
 use Rattle.flight_parse.proofs.Turns.{begins, ends, fails, goes_on, behind_is, behind_fails, length_words}
-use Rattle.flight_parse.proofs.expression.some_items.Goals as goal
+use Rattle.flight_parse.proofs.list.some_items.Goals as goal
 
 pub loop-init : goal.loop-init
 loop-init g c = begins tree_of (reader.expression c.args.below) (words c.args.lexemes.now) (words c.in_ok-first.rest.now) c.in_ok-first.first _ c.in_ok-first.ensures (search rules)

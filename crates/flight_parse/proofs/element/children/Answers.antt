@@ -3,7 +3,7 @@ use Rattle.std.proofs.lemmas.Result.{err_from_is_err_and}
 use Rattle.flight_grammar.specs.Reader as reader
 use Rattle.flight_parse.specs.Code.{words, tree_of}
 use Rattle.flight_parse.proofs.Turns.{ends, fails, goes_on, length_words}
-use Rattle.flight_parse.proofs.expression.children.Goals as goal
+use Rattle.flight_parse.proofs.element.children.Goals as goal
 
 pub returns-then-not-starts_child : goal.returns-then-not-starts_child
 returns-then-not-starts_child g c =

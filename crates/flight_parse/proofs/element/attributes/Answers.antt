@@ -5,7 +5,7 @@ use Rattle.flight_grammar.specs.Reading.{at}
 use Rattle.flight_grammar.specs.Reader as reader
 use Rattle.flight_parse.specs.Code.{words, property_of}
 use Rattle.flight_parse.proofs.Turns.{ends, fails, goes_on, length_words}
-use Rattle.flight_parse.proofs.expression.attributes.Goals as goal
+use Rattle.flight_parse.proofs.element.attributes.Goals as goal
 
 pub returns-then-not-starts_name : goal.returns-then-not-starts_name
 returns-then-not-starts_name g c =

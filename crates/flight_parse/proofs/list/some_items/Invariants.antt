@@ -5,7 +5,7 @@ use Rattle.flight_grammar.specs.Reading.{at, behind, both, made, more, first_and
 use Rattle.flight_grammar.specs.Reader as reader
 use Rattle.flight_parse.specs.Code.{words, tree_of}
 use Rattle.flight_parse.proofs.Turns.{going}
-use Rattle.flight_parse.proofs.expression.some_items.Given as goal
+use Rattle.flight_parse.proofs.list.some_items.Given as goal
 
 abbrev pub invariant-loop : goal.invariant-loop
 invariant-loop g l =
