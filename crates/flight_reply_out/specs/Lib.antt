@@ -1,0 +1,6 @@
+pub mod Sent
+pub mod Origins
+pub mod Noted
+pub mod Known
+pub mod Homes
+pub mod Fields
