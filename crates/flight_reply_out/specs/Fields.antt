@@ -32,15 +32,22 @@ numbered make i (x ∷ xs) = make i x ∷ numbered make (suc i) xs
 abbrev pub Shown : Type 0
 Shown = Option Origin → Slot → Tree
 
--- items, properties and entries of node n
+-- items, properties, entries and the reference of node n
 abbrev pub item_tree : Shown → ℕ → ℕ → Slot → Tree
 item_tree show n i s = show (Some (slot_of n i)) s
 
 abbrev pub prop_tree : Shown → ℕ → ℕ → Prop → List ℕ × Tree
 prop_tree show n i p = (p.name, show (Some (slot_of n i)) p.slot)
 
+-- an entry, whose key stands in slot i
+abbrev pub entry_tree : Shown → ℕ → ℕ → Pair → Tree
+entry_tree show n i p = array (tree_and (show (Some (slot_of n i)) p.key) (tree_and (show (Some (slot_of n (i + 1))) p.value) no_trees))
+
 abbrev pub pair_tree : Shown → ℕ → ℕ → Pair → Tree
-pair_tree show n i p = array (tree_and (show (Some (slot_of n (2 * i))) p.key) (tree_and (show (Some (slot_of n (2 * i + 1))) p.value) no_trees))
+pair_tree show n i p = entry_tree show n (2 * i) p
+
+abbrev pub action_tree : Shown → ℕ → List ℕ → Slot → Tree
+action_tree show n id bound = object (prop_and (codes "bound") (show (Some (slot_of n 0)) bound) (prop_and (codes "id") (single (place.Atom (atom.Text id))) no_props))
 
 -- what is in node n, as a value: a Map is an array of arrays of two, a Set an array, a promise its outcome, and a server
 -- reference an object; elements and streams are not sent
@@ -50,7 +57,7 @@ value_tree show n (node.Object props) = object (props_of (numbered (prop_tree sh
 value_tree show n (node.Map pairs) = array (trees_of (numbered (pair_tree show n) 0 pairs))
 value_tree show n (node.Set items) = array (trees_of (numbered (item_tree show n) 0 items))
 value_tree show n (node.Promise outcome) = show (Some (slot_of n 0)) outcome
-value_tree show n (node.Action id bound) = object (prop_and (codes "bound") (show (Some (slot_of n 0)) bound) (prop_and (codes "id") (single (place.Atom (atom.Text id))) no_props))
+value_tree show n (node.Action id bound) = action_tree show n id bound
 value_tree show n other = single (place.Atom atom.Null)
 
 -- a node in place: a Map and a Set as a token that names the part of its entries
@@ -97,9 +104,9 @@ value_fields nodes homes n home node = if has_entries node || home.apart then fi
 abbrev pub node_fields : List Node → List Home → ℕ → List Field
 node_fields nodes homes n = token_fields nodes homes n (home_at homes n) (node_at nodes n) ++ value_fields nodes homes n (home_at homes n) (node_at nodes n)
 
-abbrev pub fields_under : Graph → List Home → List Field
-fields_under g homes = field 0 (shown g.nodes homes None g.root) ∷ flat_map (node_fields g.nodes homes) (in_order (length g.nodes))
+abbrev pub fields_under : List Node → List Home → Slot → List Field
+fields_under nodes homes root = field 0 (shown nodes homes None root) ∷ flat_map (node_fields nodes homes) (in_order (length nodes))
 
 -- the fields of a canon: the root, and then the parts of each node
 unfoldable pub fields_of : Graph → List Field
-fields_of g = fields_under g (homes_of g.nodes)
+fields_of g = fields_under g.nodes (homes_of g.nodes) g.root

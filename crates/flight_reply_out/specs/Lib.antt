@@ -4,3 +4,5 @@ pub mod Noted
 pub mod Known
 pub mod Homes
 pub mod Fields
+pub mod Drawn
+pub mod Text

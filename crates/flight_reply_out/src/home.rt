@@ -1,4 +1,5 @@
 ghost use Rattle.std.specs.Prelude.{◌≡◌, ◌++◌, ◌∷◌, [], IfOk, OnOk, decimal};
+ghost use Rattle.std.specs.List.{list_any};
 ghost use Rattle.flight_reply_out.specs.Homes.{is_outlined, has_entries, has_colon, is_far, is_apart, root_of, steps_to, inside, place_below, place_for};
 
 use crate::origin::Origin;
@@ -137,13 +138,16 @@ fn is_far(out: &mut PayloadWriter, at: &Ref) -> Result<bool, Memory>
     ensures far { IfOk result (λ far. far ≡ is_far at.now) }
 {
     let path = at.path.as_slice();
-    if path.iter().any(|name| has_colon(name)) {
-        return Ok(true);
-    }
-    if path.len() >= 40 {
+    if have_colon(path) || path.len() >= 40 {
         return Ok(true);
     }
     Ok(out.value_len(at)? > 50)
+}
+
+fn have_colon(names: &[Text]) -> bool
+    ensures { result ≡ list_any has_colon names.now }
+{
+    names.iter().any(|name| has_colon(name))
 }
 
 fn has_colon(name: &Text) -> bool

@@ -15,6 +15,7 @@
 
 mod encode;
 mod fault;
+mod field;
 mod home;
 mod origin;
 mod plan;

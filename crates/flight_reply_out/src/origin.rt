@@ -57,10 +57,8 @@ fn note_node(origins: &mut Vec<Option<Origin>>, n: usize, node: &Node)
 fn note_items(origins: &mut Vec<Option<Origin>>, n: usize, items: &[Slot])
     ensures { Notes n 0 items.now origins.old.items origins.new.items }
 {
-    let mut left = items.len();
-    'items: while left > 0 {
-        left -= 1;
-        note(origins, n, left, &items[left]);
+    'items: for i in (0..items.len()).rev() {
+        note(origins, n, i, &items[i]);
     }
 }
 
@@ -68,10 +66,8 @@ fn note_items(origins: &mut Vec<Option<Origin>>, n: usize, items: &[Slot])
 fn note_props(origins: &mut Vec<Option<Origin>>, n: usize, props: &[Prop])
     ensures { Notes n 0 (map (λ p. p.slot) props.now) origins.old.items origins.new.items }
 {
-    let mut left = props.len();
-    'props: while left > 0 {
-        left -= 1;
-        note(origins, n, left, &props[left].slot);
+    'props: for i in (0..props.len()).rev() {
+        note(origins, n, i, &props[i].slot);
     }
 }
 
@@ -80,11 +76,9 @@ fn note_pairs(origins: &mut Vec<Option<Origin>>, n: usize, pairs: &[Pair])
     requires { length (flat_map (λ p. p.key ∷ p.value ∷ []) pairs.now) < 2 ^ 32 }
     ensures { Notes n 0 (flat_map (λ p. p.key ∷ p.value ∷ []) pairs.now) origins.old.items origins.new.items }
 {
-    let mut left = pairs.len();
-    'pairs: while left > 0 {
-        left -= 1;
-        note(origins, n, 2 * left + 1, &pairs[left].value);
-        note(origins, n, 2 * left, &pairs[left].key);
+    'pairs: for i in (0..pairs.len()).rev() {
+        note(origins, n, 2 * i + 1, &pairs[i].value);
+        note(origins, n, 2 * i, &pairs[i].key);
     }
 }
 

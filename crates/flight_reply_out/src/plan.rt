@@ -23,9 +23,11 @@ pub fn homes(
     let mut homes = Vec::with_capacity(alloc, nodes.len())?;
     let mut parts = 0;
     for n in 0..nodes.len() {
-        let at = place_for(alloc, nodes, homes.as_slice(), origins[n])?;
-        let apart = is_apart(out, &nodes[n], &at)?;
-        let entries = has_entries(&nodes[n]);
+        let node = &nodes[n];
+        let origin = origins[n];
+        let at = place_for(alloc, nodes, homes.as_slice(), origin)?;
+        let apart = is_apart(out, node, &at)?;
+        let entries = has_entries(node);
         let next = parts_after(parts, apart, entries)?;
         homes.push(home_with(alloc, apart, entries, at, parts))?;
         parts = next;

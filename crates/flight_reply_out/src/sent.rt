@@ -1,12 +1,12 @@
-ghost use Rattle.std.specs.Prelude.{◌≡◌, ◌∷◌, [], true, map, flat_map, MatchOption};
+ghost use Rattle.std.specs.Prelude.{◌≡◌, ◌&&◌};
 ghost use Rattle.std.specs.List.{list_all};
-ghost use Rattle.flight_reply_out.specs.Sent.{is_sent_atom, is_sent_slot, are_sent_slots, is_sent_node, IsUnsent};
+ghost use Rattle.flight_reply_out.specs.Sent.{is_sent_atom, is_sent_slot, is_sent_node, first_unsent};
 
 use flight_value::{Atom, Node, Pair, Prop, Slot};
 
 /// The least of the nodes that can't be sent.
 pub fn first_unsent(nodes: &[Node]) -> Option<usize>
-    ensures { MatchOption result (list_all is_sent_node nodes.now ≡ true) (IsUnsent nodes.now) }
+    ensures { result ≡ first_unsent nodes.now }
 {
     nodes.iter().position(|node| !is_sent_node(node))
 }
@@ -25,19 +25,19 @@ fn is_sent_node(node: &Node) -> bool
 }
 
 fn are_sent_slots(slots: &[Slot]) -> bool
-    ensures { result ≡ are_sent_slots slots.now }
+    ensures { result ≡ list_all is_sent_slot slots.now }
 {
     slots.iter().all(|slot| is_sent_slot(slot))
 }
 
 fn are_sent_props(props: &[Prop]) -> bool
-    ensures { result ≡ are_sent_slots (map (λ p. p.slot) props.now) }
+    ensures { result ≡ list_all (λ p. is_sent_slot p.slot) props.now }
 {
     props.iter().all(|prop| is_sent_slot(&prop.slot))
 }
 
 fn are_sent_pairs(pairs: &[Pair]) -> bool
-    ensures { result ≡ are_sent_slots (flat_map (λ p. p.key ∷ p.value ∷ []) pairs.now) }
+    ensures { result ≡ list_all (λ p. is_sent_slot p.key && is_sent_slot p.value) pairs.now }
 {
     pairs
         .iter()
