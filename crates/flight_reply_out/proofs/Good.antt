@@ -1,9 +1,9 @@
 -- What is known of a node's slots is known of its properties and entries.
-use Rattle.std.proofs.Common.{◌≡◌, ℕ, zero, suc, ◌*◌, ◌<◌, List, [], ◌∷◌, map, flat_map, length, slice_index_or, refl, arith, ap, subst}
+use Rattle.std.proofs.Common.{◌≡◌, ℕ, zero, suc, ◌*◌, List, [], ◌∷◌, map, flat_map, length, refl, arith}
 use Rattle.flight_value.specs.declared.graph.Slot.{Slot}
 use Rattle.flight_value.specs.declared.graph.Prop.{Prop}
 use Rattle.flight_value.specs.declared.graph.Pair.{Pair}
-use Rattle.flight_reply_out.specs.Known.{IsGoodSlot, AreGoodSlots, AreGoodProps, AreGoodPairs}
+use Rattle.flight_reply_out.specs.Known.{AreGoodSlots, AreGoodProps, AreGoodPairs}
 
 abbrev pub prop_slots : List Prop → List Slot
 prop_slots props = map (λ p. p.slot) props

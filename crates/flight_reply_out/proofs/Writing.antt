@@ -1,5 +1,5 @@
 -- What is written grows item by item.
-use Rattle.std.proofs.Common.{◌≡◌, ℕ, suc, ◌+◌, ◌<◌, ◌≤◌, List, [], ◌∷◌, ◌++◌, length, take, get_or, refl, sym, ap, ◌∙◌, arith, append_assoc, append-nil}
+use Rattle.std.proofs.Common.{◌≡◌, ℕ, suc, ◌+◌, ◌<◌, List, [], ◌∷◌, ◌++◌, length, take, get_or, sym, ap, ◌∙◌, arith, append_assoc, append-nil}
 use Rattle.std.proofs.lemmas.List.{take_more, length-take}
 use Rattle.json.specs.Token.{Token}
 use Rattle.json.specs.Token as token
@@ -42,7 +42,7 @@ module _ {A : Type 0} where
   items_next f xs i x start now next lt is e g =
       let count : 0 + length (take i xs) ≡ i = let h = length-take i xs in omega (arith, h) in
       let more : items_tokens f 0 (take (i + 1) xs) ≡ items_tokens f 0 (take i xs) ++ tokens_of (f i x) =
-          ap (items_tokens f 0) (taken xs i x lt is) ∙ (items_last f 0 (take i xs) x ∙ ap (λ n. items_tokens f 0 (take i xs) ++ tokens_of (f n x)) count) in
+      ap (items_tokens f 0) (taken xs i x lt is) ∙ (items_last f 0 (take i xs) x ∙ ap (λ n. items_tokens f 0 (take i xs) ++ tokens_of (f n x)) count) in
       g ∙ (ap (λ ts. ts ++ tokens_of (f i x)) e ∙ (append_assoc start (token.begin_array ∷ items_tokens f 0 (take i xs)) (tokens_of (f i x)) ∙ ap (λ ts. start ++ token.begin_array ∷ ts) (sym more)))
 
   -- the next property
@@ -51,7 +51,7 @@ module _ {A : Type 0} where
   props_next f xs i x start now named next lt is e n g =
       let count : 0 + length (take i xs) ≡ i = let h = length-take i xs in omega (arith, h) in
       let more : props_tokens f 0 (take (i + 1) xs) ≡ props_tokens f 0 (take i xs) ++ prop_text (f i x) =
-          ap (props_tokens f 0) (taken xs i x lt is) ∙ (props_last f 0 (take i xs) x ∙ ap (λ n. props_tokens f 0 (take i xs) ++ prop_text (f n x)) count) in
+      ap (props_tokens f 0) (taken xs i x lt is) ∙ (props_last f 0 (take i xs) x ∙ ap (λ n. props_tokens f 0 (take i xs) ++ prop_text (f n x)) count) in
       g
       ∙ (ap (λ ts. ts ++ tokens_of (f i x).1) n
       ∙ (append_assoc now (token.key (f i x).0 ∷ []) (tokens_of (f i x).1)

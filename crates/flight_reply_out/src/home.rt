@@ -68,12 +68,7 @@ pub fn root_of(alloc: Global, part: u32) -> Ref
 }
 
 /// Appends the names that lead from a node to one of its slots.
-fn push_steps(
-    alloc: Global,
-    path: &mut Vec<Text>,
-    node: &Node,
-    slot: usize,
-) -> Result<(), Memory>
+fn push_steps(alloc: Global, path: &mut Vec<Text>, node: &Node, slot: usize) -> Result<(), Memory>
     ensures { OnOk result (path.new.items ≡ path.old.items ++ steps_to node.now slot) }
 {
     match node {

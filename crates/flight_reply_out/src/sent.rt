@@ -39,9 +39,7 @@ fn are_sent_props(props: &[Prop]) -> bool
 fn are_sent_pairs(pairs: &[Pair]) -> bool
     ensures { result ≡ list_all (λ p. is_sent_slot p.key && is_sent_slot p.value) pairs.now }
 {
-    pairs
-        .iter()
-        .all(|pair| is_sent_slot(&pair.key) && is_sent_slot(&pair.value))
+    pairs.iter().all(|pair| is_sent_slot(&pair.key) && is_sent_slot(&pair.value))
 }
 
 /// Whether what stands in a slot can be sent in it.

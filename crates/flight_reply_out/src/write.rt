@@ -135,7 +135,14 @@ fn write_items(
 {
     out.begin_array()?;
     'items: for (i, item) in items.iter().enumerate() {
-        write_slot(alloc, out, drawn, levels, Some(Origin { node: n, slot: i }), item)?;
+        write_slot(
+            alloc,
+            out,
+            drawn,
+            levels,
+            Some(Origin { node: n, slot: i }),
+            item,
+        )?;
     }
     out.end_array()
 }
@@ -157,7 +164,14 @@ fn write_props(
     out.begin_object()?;
     'props: for (i, prop) in props.iter().enumerate() {
         out.name(prop.name.as_str())?;
-        write_slot(alloc, out, drawn, levels, Some(Origin { node: n, slot: i }), &prop.slot)?;
+        write_slot(
+            alloc,
+            out,
+            drawn,
+            levels,
+            Some(Origin { node: n, slot: i }),
+            &prop.slot,
+        )?;
     }
     out.end_object()
 }
@@ -201,8 +215,25 @@ fn write_pair(
     ensures { OnOk result (out.new ≡ out.old ++ tokens_of (entry_tree (slot_tree levels drawn.entry.nodes.now drawn.entry.homes.now) n i pair.now)) }
 {
     out.begin_array()?;
-    write_slot(alloc, out, drawn, levels, Some(Origin { node: n, slot: i }), &pair.key)?;
-    write_slot(alloc, out, drawn, levels, Some(Origin { node: n, slot: i + 1 }), &pair.value)?;
+    write_slot(
+        alloc,
+        out,
+        drawn,
+        levels,
+        Some(Origin { node: n, slot: i }),
+        &pair.key,
+    )?;
+    write_slot(
+        alloc,
+        out,
+        drawn,
+        levels,
+        Some(Origin {
+            node: n,
+            slot: i + 1,
+        }),
+        &pair.value,
+    )?;
     out.end_array()
 }
 
@@ -223,7 +254,14 @@ fn write_action(
 {
     out.begin_object()?;
     out.name("bound")?;
-    write_slot(alloc, out, drawn, levels, Some(Origin { node: n, slot: 0 }), bound)?;
+    write_slot(
+        alloc,
+        out,
+        drawn,
+        levels,
+        Some(Origin { node: n, slot: 0 }),
+        bound,
+    )?;
     out.name("id")?;
     out.text(id)?;
     out.end_object()

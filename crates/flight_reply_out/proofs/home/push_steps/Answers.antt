@@ -1,4 +1,4 @@
-use Rattle.std.proofs.Common.{◌≡◌, ◌++◌, ◌≤◌, List, length, append-nil, sym, subst}
+use Rattle.std.proofs.Common.{◌≤◌, List, length, append-nil, sym, subst}
 use Rattle.std.proofs.lemmas.Option.{slice_get_past}
 use Rattle.flight_value.specs.declared.graph.Prop.{Prop}
 use Rattle.flight_reply_out.proofs.home.push_steps.Goals as goal

@@ -1,4 +1,4 @@
-use Rattle.std.proofs.Common.{drop, map}
+use Rattle.std.proofs.Common.{drop}
 use Rattle.flight_reply_out.specs.Noted.{Notes}
 use Rattle.flight_reply_out.proofs.origin.note_items.Given as goal
 

@@ -1,5 +1,4 @@
-use Rattle.std.proofs.Common.{◌≡◌, ◌∙◌, List, None, get_or, ap, subst, sym}
-use Rattle.flight_reply_out.specs.Origins.{origin_of}
+use Rattle.std.proofs.Common.{◌∙◌, None, get_or, ap}
 use Rattle.flight_reply_out.specs.Homes.{place_for}
 use Rattle.flight_reply_out.proofs.Planning.{node_is, homes_more, parts_more}
 use Rattle.flight_reply_out.proofs.plan.homes.Goals as goal

@@ -1,4 +1,4 @@
-use Rattle.std.proofs.Common.{◌≡◌, ◌*◌, ◌<◌, ◌^◌, ℕ, List, length, flat_map, ◌∷◌, ◌++◌, [], arith, rules, ap, sym, subst, ◌∙◌}
+use Rattle.std.proofs.Common.{◌<◌, ◌^◌, List, length, ◌∷◌, ◌++◌, [], arith, rules, ap, sym, subst, ◌∙◌}
 use Rattle.json.specs.Token as token
 use Rattle.flight_value.specs.declared.graph.Prop.{Prop}
 use Rattle.flight_value.specs.declared.graph.Pair.{Pair}
