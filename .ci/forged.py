@@ -55,6 +55,7 @@ PAST_LIMIT = {
     "flight_graph": 3,
     "flight_link": 1,
     "flight_payload": 5,
+    "flight_reply_out": 1,
     "flight_resolve": 3,
     "flight_seq": 24,
     "flight_syntax": 2,

@@ -161,7 +161,7 @@ fn plain_len(text: &str) -> Result<usize, Memory>
 
 /// How many bytes a text has as a JSON string.
 #[inline(always)]
-fn quoted_len(text: &str) -> Result<usize, Memory>
+pub(crate) fn quoted_len(text: &str) -> Result<usize, Memory>
     ensures len { IfOk result (λ n. n ≡ length (quoted text.now)) }
     ensures few { IfOk result (λ n. n ≤ 6 * longest + 2) }
 {

@@ -1,6 +1,6 @@
 ghost use Rattle.std.specs.Prelude.{◌≡◌, ◌++◌, ◌∷◌, ◌<◌, ◌^◌, [], length, OnOk, IfOk};
 ghost use Rattle.json.specs.Lex.{tokens};
-ghost use Rattle.json.specs.Print.{print, IsPrintable};
+ghost use Rattle.json.specs.Print.{print, token_text, IsPrintable};
 ghost use Rattle.json.specs.Reads.{token_of as json_token_of};
 ghost use Rattle.json.specs.Token.{begin_array, end_array, begin_object, end_object, key, string};
 ghost use Rattle.flight_value.specs.Graph.{IsValidAtom};
@@ -13,11 +13,11 @@ ghost use Rattle.flight_payload.specs.Written.{token_of, mark_token, spelled, Ha
 ghost use Rattle.flight_payload.specs.Line.{IsLineToken};
 ghost use Rattle.flight_payload.specs.Rows.{IsRow, HasWritten};
 
-use crate::json_text::JsonText;
+use crate::json_text::{JsonText, quoted_len};
 use crate::spelling::{spell_big, spell_id, spell_place, spell_text, word};
 use flight_row::{Row, RowKind};
 use flight_text::Ref;
-use flight_value::{Atom, List, Memory};
+use flight_value::{Atom, List, Memory, Text};
 use json::Token;
 use std::alloc::Global;
 use std::marker::Model;
@@ -221,6 +221,26 @@ impl PayloadWriter {
         ensures written { IfOk result (HasWritten self.old) }
     {
         self.take_row(id, RowKind::Close)
+    }
+
+    /// The text of what was written, which is JSON where a value was. Nothing is written any more then.
+    pub fn take_text(&mut self) -> Result<Text, Memory>
+        ensures empty { self.new ≡ [] }
+        ensures text { IfOk result (λ text. text ≡ print self.old) }
+        ensures tokens { IfOk result (λ text. tokens text ≡ self.old) }
+    {
+        let text = self.out.take(self.alloc)?;
+        // SAFETY: it is UTF-8, as `take` says.
+        Text::from_string(unsafe { String::from_utf8_unchecked(text) })
+    }
+
+    /// How many bytes a reference to the value at a place is written with, its quotation marks counted. Nothing is written.
+    pub fn value_len(&mut self, at: &Ref) -> Result<usize, Memory>
+        ensures same { self.new ≡ self.old }
+        ensures len { IfOk result (λ n. n ≡ length (token_text (token_of (place.Value at.now)))) }
+    {
+        spell_place(&mut self.spelled, "$", at)?;
+        quoted_len(self.spelled.as_str())
     }
 
     /// A row of what was written.

@@ -19,6 +19,8 @@ mod payloads;
 #[cfg(test)]
 mod places;
 #[cfg(test)]
+mod replies;
+#[cfg(test)]
 mod rows;
 #[cfg(test)]
 mod strings;

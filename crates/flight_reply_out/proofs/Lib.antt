@@ -1,0 +1,5 @@
+pub mod Planning
+pub mod Good
+pub mod Writing
+pub mod Sending
+pub mod Gathering
