@@ -1,10 +1,12 @@
 -- Graphs that draw one store have one canon.
 use Rattle.std.proofs.Common.{◌≡◌, ℕ, List, [], ◌∷◌, sym, ◌∙◌, ap, subst}
+use Rattle.std.proofs.lemmas.Option.{same_Some}
 use Rattle.std.specs.List.{AllZip}
 use Rattle.flight_value.specs.Graph.{IsValid}
 use Rattle.flight_value.specs.Store.{Shape, Target, atom, node_at, TargetsFit, SlotsFit, Fits, Store, Paired, DrawOneGraph, of_graph}
 use Rattle.flight_value.specs.declared.graph.Graph.{Graph}
 use Rattle.flight_graph.specs.Canon.{canon_of}
+use Rattle.flight_graph.specs.Joined.{Joined}
 use Rattle.flight_graph.proofs.Pairs.{one_canon, same_by}
 
 -- each slot leads to one target, and at each key stands one node
@@ -12,12 +14,10 @@ pub record IsSingle {K V : Type 0} (s : Store K V) : Type 0 where
   pub leads_once : (v : V) (x y : Target K) → s.leads v x → s.leads v y → x ≡ y
   pub stands_once : (k : K) (x y : Shape V) → s.at k x → s.at k y → x ≡ y
 
--- the pairs of keys that meet at one key of a third store
-pub Joined : {K L N : Type 0} → (K → N → Type 0) → (L → N → Type 0) → K → L → Type 0
-Joined {K} {L} {N} P Q i j = (x : N) × P i x × Q j x
+pub graph_single : (g : Graph) → IsSingle (of_graph g)
+graph_single g = record { leads_once = λ v x y a b. sym a ∙ b; stands_once = λ k x y a b. same_Some x y (sym a ∙ b) }
 
 targets_join : {K L N : Type 0} (P : K → N → Type 0) (Q : L → N → Type 0) (a : Target K) (b : Target L) (s : Target N) → TargetsFit P a s → TargetsFit Q b s → TargetsFit (Joined P Q) a b
-unfolding Joined
 targets_join P Q (atom a) (atom b) (atom c) f h = f ∙ sym h
 targets_join P Q (node_at i) (node_at j) (node_at x) f h = (x, f, h)
 targets_join P Q (atom a) (atom b) (node_at c) f h = absurd f
@@ -50,7 +50,6 @@ slots_join P Q g k h single (v ∷ vs) (w ∷ ws) [] a b = absurd a
 
 -- two stores that fit a third fit one another
 pub fits_join : {K V L W N X : Type 0} (P : K → N → Type 0) (Q : L → N → Type 0) (g : Store K V) (k : Store L W) (h : Store N X) → IsSingle h → Fits P g h → Fits Q k h → Fits (Joined P Q) g k
-unfolding Joined
 fits_join P Q g k h single a b =
     record {
       one_there = λ i j l x y. b.one_here j l y.0 (subst (Q j) (a.one_there i x.0 y.0 x.1 y.1) x.2) y.2;

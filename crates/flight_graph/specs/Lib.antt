@@ -1,4 +1,5 @@
 pub mod Canon
+pub mod Joined
 pub mod Look
 pub mod Ordered
 pub mod Text

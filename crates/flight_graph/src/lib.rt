@@ -35,7 +35,7 @@ mod writer;
 pub use equal::alike;
 pub use escape::{put, write_string};
 pub use label::{Kind, Label};
-pub use law::{canon_in_order, canon_is_valid, same_by_pairs};
+pub use law::{canon_in_order, canon_is_valid, pairs_join, same_by_pairs};
 pub use print::{canon_text, write_atom, write_comma, write_number};
 pub use rename::canon;
 pub use sight::look;

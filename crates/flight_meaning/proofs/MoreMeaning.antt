@@ -14,7 +14,7 @@ use Rattle.flight_meaning.specs.declared.place.PlaceTree.{PlaceTree}
 use Rattle.flight_meaning.specs.declared.place.PlacedRow.{PlacedRow}
 use Rattle.flight_meaning.specs.Linked.{rows_of, Spot, place_at, first_place, beside}
 use Rattle.flight_meaning.specs.Resolve.{property, to, Found, found, stream, not_yet, nowhere}
-use Rattle.flight_meaning.specs.Meaning.{Written, Identity, made_at, promise_of, stream_of, action_of, Token, map_token, set_token, entry, both, entries, slots_in, HasSlots, FailsWith, Reference, text_at, bound_at, reference_with, there, reference_in, reference_by, reference_of, FlowEnd, flowing, closed_with, broken_by, Flowed, with_row, flowed, state_of, final_slots, HasShapeHere, opened, stream_shape, action_shape, HasShape, pending, TokenLeads, LeadsHere, IsTarget, stand_of, Leads}
+use Rattle.flight_meaning.specs.Meaning.{Written, Identity, made_at, promise_of, stream_of, action_of, Token, map_token, set_token, entry, both, entries, slots_in, HasSlots, FailsWith, Reference, text_at, bound_at, reference_with, there, reference_in, reference_by, reference_of, FlowEnd, flowing, closed_with, broken_by, Flowed, with_row, flowed, joined, state_of, final_slots, HasShapeHere, opened, stream_shape, action_shape, HasShape, pending, TokenLeads, LeadsHere, IsTarget, stand_of, Leads}
 use Rattle.flight_meaning.specs.Good.{IsTokenDefined, IsDefined, IsHeld}
 use Rattle.flight_meaning.specs.Lasting.{HasEnded, HasGrown}
 use Rattle.flight_meaning.proofs.MoreRows.{rows_of-first, place-more, end-more, comes-more}
@@ -239,10 +239,6 @@ pub held-more : (rows more : List PlacedRow) (at : Place) → IsHeld rows at →
 held-more rows more at h = (h.0, place-more rows more h.0 at h.1)
 
 -- ---- a stream that still goes on
-
--- a stream, and what followed
-abbrev pub joined : Flowed → Flowed → Flowed
-joined first rest = record { items = first.items ++ rest.items; end = rest.end }
 
 row-joined : (id n : ℕ) (kind : RowKind) (t : PlaceTree) (a b c : Flowed) → (a.end ≡ flowing → c ≡ joined a b) → (with_row id n kind t a).end ≡ flowing → with_row id n kind t c ≡ joined (with_row id n kind t a) b
 row-joined id n row.Error t a b c same still = cc

@@ -136,6 +136,10 @@ abbrev pub flowed : ℕ → ℕ → List PlaceTree → Flowed
 flowed id n [] = record { items = []; end = flowing }
 flowed id n (t ∷ ts) = with_row id n t.kind t (flowed id (suc n) ts)
 
+-- a stream, and what followed
+abbrev pub joined : Flowed → Flowed → Flowed
+joined first rest = record { items = first.items ++ rest.items; end = rest.end }
+
 abbrev pub state_of : FlowEnd → FlowState
 state_of flowing = store.flowing
 state_of (closed_with final) = store.closed

@@ -1,16 +1,34 @@
-ghost use Rattle.std.specs.Prelude.{ℕ, ◌≡◌, ◌≢◌, ◌↔◌, List, [], ◌∷◌, ◌++◌, Option, Some};
+ghost use Rattle.std.specs.Prelude.{ℕ, ◌+◌, ◌≡◌, ◌≢◌, ◌↔◌, List, [], ◌∷◌, ◌++◌, length, Option, Some};
 ghost use Rattle.flight_value.specs.Store as store;
 ghost use Rattle.flight_value.specs.Store.{FlowState, Shape, Target, Fits, Paired, DrawOneGraph, of_graph};
 ghost use Rattle.flight_value.specs.declared.graph.Flow.{Flow};
 ghost use Rattle.flight_value.specs.declared.graph.Graph.{Graph};
 ghost use Rattle.flight_text.specs.declared.mark.Ref.{Ref};
 ghost use Rattle.flight_meaning.specs.declared.place.Place.{Place};
+ghost use Rattle.flight_meaning.specs.declared.place.PlaceTree.{PlaceTree};
 ghost use Rattle.flight_meaning.specs.declared.place.PlacedRow.{PlacedRow};
-ghost use Rattle.flight_meaning.specs.Linked.{rows_of, Spot, place_at};
-ghost use Rattle.flight_meaning.specs.Resolve.{Path, Stand, to, here, Found, found, stream, not_yet, nowhere, Ends, Endless, LeadsNowhere, IsEnd, StopsAt, IsThere, WaitsForNone};
-ghost use Rattle.flight_meaning.specs.Meaning.{Written, Identity, stream_of, Token, HasSlots, FailsWith, HasShape, pending, Leads, meaning};
+ghost use Rattle.flight_meaning.specs.Linked.{rows_of, Standing, goes, after, standing_of, FollowOn, Spot, place_at};
+ghost use Rattle.flight_meaning.specs.Resolve.{Path, Stand, to, here, Found, found, stream, not_yet, nowhere, on, ends, turn, Ends, Endless, LeadsNowhere, IsEnd, StopsAt, IsThere, WaitsForNone};
+ghost use Rattle.flight_meaning.specs.Meaning.{Written, Identity, stream_of, Token, HasSlots, FailsWith, flowing, flowed, joined, HasShape, pending, Leads, meaning};
 ghost use Rattle.flight_meaning.specs.Good.{IsDefined, IsLeastUndefined};
 ghost use Rattle.flight_meaning.specs.Lasting.{HasEnded, HasGrown, IsSettled, IsResolvedUnder, IsComplete};
+
+/// A fact alone: the rows of an id are those that came, in order. With more rows, how the id stands and what its stream
+/// holds go on from where they were, and rows of which none is refused begin with such rows.
+pub fn rows_follow()
+    ensures rows { (id : ℕ) (rows more : List PlacedRow) → rows_of id (rows ++ more) ≡ rows_of id rows ++ rows_of id more }
+    ensures standing { (id : ℕ) (rows more : List PlacedRow) (s : Standing) → standing_of id rows ≡ Some s → standing_of id (rows ++ more) ≡ after (goes s) (rows_of id more) }
+    ensures front { (rows more : List PlacedRow) → FollowOn (rows ++ more) → FollowOn rows }
+    ensures items { (id first : ℕ) (trees more : List PlaceTree) → (flowed id first trees).end ≡ flowing → flowed id first (trees ++ more) ≡ joined (flowed id first trees) (flowed id (first + length trees) more) }
+{}
+
+/// A fact alone: a walk ends with a turn that ends it, and else where it ends from the stand to which its turn leads. At a
+/// place that is no lazy and no value reference it ends at once, where no step is left.
+pub fn walks_turn()
+    ensures goes_on { (rows : List PlacedRow) (s next : Stand) (f : Found) → turn rows s ≡ on next → (Ends rows s f ↔ Ends rows next f) }
+    ensures last { (rows : List PlacedRow) (s : Stand) (f : Found) → turn rows s ≡ ends f → Ends rows s f }
+    ensures stops { (rows : List PlacedRow) (s : Spot) → StopsAt rows s → turn rows (here s []) ≡ ends (found s) }
+{}
 
 /// A fact alone: a walk has at most one end, and one that ends is not endless. At a place where it ends stands no lazy
 /// and no value reference, and an id that it waits for has no row.
@@ -33,6 +51,7 @@ pub fn steps_go_on()
 pub fn walks_on()
     ensures ended { (rows more : List PlacedRow) (s : Stand) (f : Found) → IsEnd f → Ends rows s f → Ends (rows ++ more) s f }
     ensures waited { (rows more : List PlacedRow) (s : Stand) (id : ℕ) (path : Path) (f : Found) → Ends rows s (not_yet id path) → (Ends (rows ++ more) s f ↔ Ends (rows ++ more) (to id path) f) }
+    ensures waited_endless { (rows more : List PlacedRow) (s : Stand) (id : ℕ) (path : Path) → Ends rows s (not_yet id path) → (Endless (rows ++ more) s ↔ Endless (rows ++ more) (to id path)) }
     ensures nowhere { (rows more : List PlacedRow) (s : Stand) → IsThere rows s → LeadsNowhere rows s → LeadsNowhere (rows ++ more) s }
     ensures back { (rows more : List PlacedRow) (s : Stand) (f : Found) → IsThere rows s → WaitsForNone rows s → Ends (rows ++ more) s f → Ends rows s f }
 {}

@@ -14,5 +14,8 @@
 mod law;
 mod place;
 
-pub use law::{one_end, one_meaning, pairs_stay, resolved_stays, steps_go_on, walks_on};
+pub use law::{
+    one_end, one_meaning, pairs_stay, resolved_stays, rows_follow, steps_go_on, walks_on,
+    walks_turn,
+};
 pub use place::{Named, Place, PlaceTree, PlacedRow};

@@ -34,9 +34,9 @@ use Rattle.flight_render.specs.Plain.{flow_slots, last_job, flow_last, flow_item
 use Rattle.flight_value.specs.Listed.{In}
 use Rattle.flight_render.specs.Costs.{Reached, at_root, through, in_slot}
 use Rattle.flight_render.specs.Valid.{IsValidGround, IsNamed, MadeWell, IsKnown, ShowsKnown}
-use Rattle.flight_render.specs.Laws.{Grows}
+use Rattle.flight_render.specs.Laws.{Grows, IsThere}
 use Rattle.flight_render.proofs.Names.{some-injective}
-use Rattle.flight_render.proofs.Larger.{IsThere, job_of-none, leads-keeps}
+use Rattle.flight_render.proofs.Larger.{job_of-none, leads-keeps}
 use Rattle.flight_render.proofs.Falling.{bodied}
 use Rattle.flight_render.proofs.Sourced.{each_of, each_at, mapped_each, OnGave, slot_named, node_valid, outcome_valid, source_is-named}
 use Rattle.flight_render.proofs.There.{known_alone, node_known, gives_known}

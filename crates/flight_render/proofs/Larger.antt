@@ -23,7 +23,7 @@ use Rattle.flight_render.specs.Jobs.{Job, the_root, element, outcome, known, bla
 use Rattle.flight_render.specs.Plain.{flow_slots, last_job, flow_last, flow_item, flow, made_shape, flow_shape, shape_at, NodeIs}
 use Rattle.flight_value.specs.Listed.{In}
 use Rattle.flight_render.specs.Costs.{Reached, at_root, through, in_slot, waits_at, flow_stop, Stops, Rendered}
-use Rattle.flight_render.specs.Laws.{Grows, Stays, IsLasting}
+use Rattle.flight_render.specs.Laws.{Grows, Stays, IsLasting, IsThere}
 use Rattle.flight_render.proofs.Grows.{keeps, with_settled, eval-keeps, source-keeps}
 use Rattle.flight_render.proofs.Names.{some-injective}
 
@@ -171,11 +171,6 @@ job_of-keeps g few many gr (shown (tree.Made n)) j h = go (node_at g few n) refl
     go : (o : Option Made) → node_at g few n ≡ o → cond (is_server o) (Some (element n)) None ≡ Some j → job_of g many (shown (tree.Made n)) ≡ Some j
     go None is w = absurd (none-some j w)
     go (Some m) is w = ap (λ z. cond (is_server z) (Some (element n)) None) (node_at-keeps g few many gr n m is) ∙ w
-
--- the node that a value names is there
-abbrev pub IsThere : Ground → List Bool → Value → Type 0
-IsThere g s (shown (tree.Made n)) = (m : Made) × (node_at g s n ≡ Some m)
-IsThere g s _ = Unit {0}
 
 pub job_of-none : (g : Ground) (few many : List Bool) → Grows few many → (x : Value) → IsThere g few x → job_of g few x ≡ None → job_of g many x ≡ None
 job_of-none g few many gr (of_job k) t h = h

@@ -366,9 +366,9 @@ module _ (cx : Context) (valid : IsValidGround cx.over) (back : TablesLeadBack [
   well_tagged : (t : Tag) (key props : Tree) (m : Machine) → IsTagOf cx.over t → Nodes m.made → IsKey key → Fine m.made key → FineAs IsObjectKind m.made props → Well Fine m.made (make_tagged cx t key props m)
   unfolding FineAs
   well_tagged (tag.Server c) key props m is n k h w = well_node (kind.Server c) (key ∷ props ∷ []) m n (h, (w.0, tt)) (is, (key, (props, refl, k, w.1)))
-  well_tagged (tag.Host name) key props m is n k h w = well_node kind.Element (tag_tree cx (tag.Host name) ∷ key ∷ props ∷ []) m n (tt, (h, (w.0, tt))) refl
-  well_tagged (tag.Client c) key props m is n k h w = well_node kind.Element (tag_tree cx (tag.Client c) ∷ key ∷ props ∷ []) m n (tt, (h, (w.0, tt))) refl
-  well_tagged tag.Suspense key props m is n k h w = well_node kind.Element (tag_tree cx tag.Suspense ∷ key ∷ props ∷ []) m n (tt, (h, (w.0, tt))) refl
+  well_tagged (tag.Host name) key props m is n k h w = well_node kind.Element (tag_tree cx (tag.Host name) ∷ key ∷ props ∷ []) m n (tt, (h, (w.0, tt))) (tag_tree cx (tag.Host name), (key, (props, refl, k)))
+  well_tagged (tag.Client c) key props m is n k h w = well_node kind.Element (tag_tree cx (tag.Client c) ∷ key ∷ props ∷ []) m n (tt, (h, (w.0, tt))) (tag_tree cx (tag.Client c), (key, (props, refl, k)))
+  well_tagged tag.Suspense key props m is n k h w = well_node kind.Element (tag_tree cx tag.Suspense ∷ key ∷ props ∷ []) m n (tt, (h, (w.0, tt))) (tag_tree cx tag.Suspense, (key, (props, refl, k)))
 
   well_element : (t : Tag) (x : Attributes) (m : Machine) → IsTagOf cx.over t → Nodes m.made → AttrsDistinct [] m.made x → Well Fine m.made (make_element cx t x m)
   unfolding AttrsDistinct PropsDistinct

@@ -1,12 +1,15 @@
 -- What the laws of rendering speak of.
-use Rattle.std.specs.Prelude.{ℕ, suc, ◌≡◌, ◌<◌, ◌⊎◌, Bool, true, false, List, [], ◌∷◌, ◌++◌, length}
+use Rattle.std.specs.Prelude.{ℕ, suc, ◌≡◌, ◌<◌, ◌⊎◌, Bool, true, false, List, [], ◌∷◌, ◌++◌, length, Some}
 use Rattle.flight_value.specs.declared.key.Key.{Key}
 use Rattle.flight_value.specs.declared.key.Key.TheVariants as key
 use Rattle.flight_value.specs.declared.made.Made.{Made}
 use Rattle.flight_value.specs.declared.made.Tree.{Tree}
 use Rattle.flight_value.specs.declared.made.Tree.TheVariants as tree
+use Rattle.flight_render.specs.declared.root.Ground.{Ground}
 use Rattle.flight_render.specs.Run.{Step, gave, threw, waits, Run}
 use Rattle.flight_render.specs.Values.{is_settled}
+use Rattle.flight_render.specs.Bodies.{node_at}
+use Rattle.flight_render.specs.Jobs.{Value, shown}
 
 -- ---- more sources settled
 
@@ -59,3 +62,10 @@ pub record NamesBack (address : List ℕ) (b : Run Tree) : Type 0 where
 abbrev pub IsLasting : Key → Type 0
 IsLasting (key.Stream stream) = ⊥
 IsLasting _ = Unit {0}
+
+-- ---- nodes made
+
+-- the node that a value names is there, where a body made it
+abbrev pub IsThere : Ground → List Bool → Value → Type 0
+IsThere g settled (shown (tree.Made n)) = (m : Made) × (node_at g settled n ≡ Some m)
+IsThere g settled _ = Unit {0}

@@ -20,7 +20,7 @@ ghost use Rattle.flight_render.specs.Costs.{Reached, Stops, Rendered, Total, Tot
 ghost use Rattle.flight_render.specs.declared.job.What.{What};
 ghost use Rattle.flight_render.specs.Attempt.{job_for, run_for, IsTabled};
 ghost use Rattle.flight_render.specs.Valid.{IsValidGround, MadeWell, AreTables, BodyMade, IsKnown, ShowsKnown};
-ghost use Rattle.flight_render.specs.Laws.{Grows, Stays, Own, LeadBack, TablesLeadBack, NamesBack, IsLasting};
+ghost use Rattle.flight_render.specs.Laws.{Grows, Stays, Own, LeadBack, TablesLeadBack, NamesBack, IsLasting, IsThere};
 
 /// A body that finishes, or that waits for a source which still is not settled, is the same with more sources
 /// settled, nodes and costs included. More settled sources never lower the cost of a body.
@@ -30,12 +30,13 @@ pub fn larger_bodies()
     ensures cost { (g : Ground) (few many : List Bool) → Grows few many → (tables : List (List Made)) (number : ℕ) (props : Tree) (address : List ℕ) → (body g few tables number props address).after.cost ≤ (body g many tables number props address).after.cost }
 {}
 
-/// Rendering only gains with more sources settled.
+/// Rendering only gains with more sources settled. What is there and is no job does not become one.
 pub fn larger_rendering()
     ensures bodies { (g : Ground) (few many : List Bool) → Grows few many → (address : List ℕ) (b : Run Tree) → body_at g few address ≡ Some b → Stays many b.step → body_at g many address ≡ Some b }
     ensures nodes { (g : Ground) (few many : List Bool) → Grows few many → (n : Name) (m : Made) → node_at g few n ≡ Some m → node_at g many n ≡ Some m }
     ensures tables { (g : Ground) (few many : List Bool) → Grows few many → (n : Name) (tables : List (List Made)) → TabledFor g few n tables → TabledFor g many n tables }
     ensures jobs { (g : Ground) (few many : List Bool) → Grows few many → (v : Value) (j : Job) → job_of g few v ≡ Some j → job_of g many v ≡ Some j }
+    ensures no_jobs { (g : Ground) (few many : List Bool) → Grows few many → (v : Value) → IsThere g few v → job_of g few v ≡ None → job_of g many v ≡ None }
     ensures ends { (g : Ground) (few many : List Bool) → Grows few many → (j : Job) (end : End) → comes g few j ≡ Some end → Stays many end → comes g many j ≡ Some end }
     ensures chains { (g : Ground) (few many : List Bool) → Grows few many → (v : Value) (js : List Job) (w : Value) → Leads g few v js w → IsFinal w → Leads g many v js w }
     ensures shapes { (g : Ground) (few many : List Bool) → Grows few many → (k : Key) (shape : Shape Value) → IsLasting k → NodeIs g few k shape → NodeIs g many k shape }
@@ -64,11 +65,14 @@ pub fn attempts()
     ensures task { (g : Ground) → IsValidGround g → (few many : List Bool) → Grows few many → (what : What) → IsTabled g many what → Stays many (run_for g few what).step → comes g many (job_for g what) ≡ Some (run_for g few what).step }
 {}
 
-/// A chain never comes back to a job, and ends. What is reached stands for one slot.
+/// A chain never comes back to a job, and ends, at one value. What is reached stands for one slot. At a key stands one
+/// node, and what leads to a key at which one stands is there.
 pub fn chains()
     ensures no_loop { (g : Ground) (settled : List Bool) (j : Job) (end : End) (js : List Job) (w : Value) → comes g settled j ≡ Some end → Leads g settled (value_of g settled j end) js w → (job_of g settled w ≡ Some j) → ⊥ }
     ensures ends { (g : Ground) (settled : List Bool) (v : Value) → Reached g settled v → (t : Target Key) × Stands g settled v t }
     ensures one { (g : Ground) (settled : List Bool) (v : Value) (t u : Target Key) → Stands g settled v t → Stands g settled v u → t ≡ u }
+    ensures last { (g : Ground) (settled : List Bool) (v : Value) (js ks : List Job) (w x : Value) → Leads g settled v js w → Leads g settled v ks x → job_of g settled w ≡ None → job_of g settled x ≡ None → w ≡ x }
+    ensures there { (g : Ground) (settled : List Bool) (v : Value) (k : Key) (shape : Shape Value) → IsTarget g settled v (node_at_key k) → NodeIs g settled k shape → IsThere g settled v }
     ensures node { (g : Ground) (settled : List Bool) (k : Key) (shape other : Shape Value) → NodeIs g settled k shape → NodeIs g settled k other → shape ≡ other }
 {}
 

@@ -33,10 +33,10 @@ use Rattle.flight_meaning.specs.Linked.{rows_of, Standing, absent, streaming, en
 use Rattle.flight_meaning.specs.Resolve.{Stand, to, here, Found, found, not_yet, nowhere, Turn, on, ends, turn, go_from, Ends, Path}
 use Rattle.flight_meaning.specs.Resolve as resolve
 use Rattle.flight_meaning.specs.Meaning as wire
-use Rattle.flight_meaning.specs.Meaning.{Written, at_place, Identity, promise_of, stream_of, HasShape, FlowEnd, flowing, closed_with, broken_by, Flowed, flowed, with_row, digest_at, Reference, reference_of, stand_of}
+use Rattle.flight_meaning.specs.Meaning.{Written, at_place, Identity, promise_of, stream_of, HasShape, FlowEnd, flowing, closed_with, broken_by, Flowed, flowed, joined, with_row, digest_at, Reference, reference_of, stand_of}
 use Rattle.flight_meaning.specs.Good.{IsHeld, IsTokenDefined}
 use Rattle.flight_meaning.proofs.Walking.{ends_back, ends_forth, turn_ends, one_end}
-use Rattle.flight_meaning.proofs.MoreMeaning.{joined, flowed-append}
+use Rattle.flight_meaning.proofs.MoreMeaning.{flowed-append}
 use Rattle.flight_state.specs.declared.status.Status.{Status}
 use Rattle.flight_state.specs.declared.status.Status.TheVariants as status
 use Rattle.flight_state.specs.State.{State, Task, IsLive, stream_for, IsAlone, next_by, next_what, job_at}

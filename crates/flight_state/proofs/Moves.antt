@@ -18,8 +18,8 @@ use Rattle.flight_render.specs.Plain.{last_job, next_job}
 use Rattle.flight_value.specs.Listed.{In, Distinct}
 use Rattle.flight_render.specs.Costs.{Rendered, address_of}
 use Rattle.flight_render.specs.Attempt.{IsTabled, job_for}
-use Rattle.flight_render.specs.Laws.{Grows, IsLasting}
-use Rattle.flight_render.proofs.Larger.{IsThere, there_by-shape, job_of-keeps, job_of-none, leads-keeps, has_job-final, node-keeps, node_at-keeps, tabled-keeps, node-final, comes-keeps, reached-keeps, rendered-keeps}
+use Rattle.flight_render.specs.Laws.{Grows, IsLasting, IsThere}
+use Rattle.flight_render.proofs.Larger.{there_by-shape, job_of-keeps, job_of-none, leads-keeps, has_job-final, node-keeps, node_at-keeps, tabled-keeps, node-final, comes-keeps, reached-keeps, rendered-keeps}
 use Rattle.flight_meaning.specs.declared.place.Place.{Place}
 use Rattle.flight_meaning.specs.declared.place.Place.TheVariants as place
 use Rattle.flight_meaning.specs.declared.place.PlaceTree.{PlaceTree}

@@ -4,7 +4,8 @@ use Rattle.flight_value.specs.Graph.{IsValid}
 use Rattle.flight_value.specs.Store.{Shape, Store, Paired, DrawOneGraph, of_graph}
 use Rattle.flight_value.specs.declared.graph.Graph.{Graph}
 use Rattle.flight_graph.specs.Canon.{canon_of}
-use Rattle.flight_graph.proofs.Drawn.{IsSingle, Joined, fits_join, fit_one_canon}
+use Rattle.flight_graph.specs.Joined.{Joined}
+use Rattle.flight_graph.proofs.Drawn.{IsSingle, fits_join, fit_one_canon}
 use Rattle.flight_render.specs.declared.root.Ground.{Ground}
 use Rattle.flight_render.specs.Plain.{plain}
 use Rattle.flight_render.proofs.Reaches.{one_slot, one_node}

@@ -8,6 +8,9 @@ returns-clause-ended c = end-more
 pub returns-clause-waited : goal.returns-clause-waited
 returns-clause-waited c rows more s id path f w = let a = waited-more rows more s id path w in (a.forth f, a.back f)
 
+pub returns-clause-waited_endless : goal.returns-clause-waited_endless
+returns-clause-waited_endless c rows more s id path w = let a = waited-more rows more s id path w in (a.endless_on, a.endless_of)
+
 pub returns-clause-nowhere : goal.returns-clause-nowhere
 returns-clause-nowhere c = leads_nowhere-more
 

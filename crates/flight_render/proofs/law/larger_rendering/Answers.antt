@@ -1,4 +1,4 @@
-use Rattle.flight_render.proofs.Larger.{body_at-keeps, node_at-keeps, tabled-keeps, job_of-keeps, comes-keeps, leads-keeps, node-keeps, slot-keeps, reached-keeps, rendered-keeps, stops-keeps}
+use Rattle.flight_render.proofs.Larger.{body_at-keeps, node_at-keeps, tabled-keeps, job_of-keeps, job_of-none, comes-keeps, leads-keeps, node-keeps, slot-keeps, reached-keeps, rendered-keeps, stops-keeps}
 use Rattle.flight_render.proofs.Closed.{stands-keeps}
 use Rattle.flight_render.proofs.Sums.{total-grows}
 use Rattle.flight_render.proofs.Dearer.{over-keeps}
@@ -10,6 +10,7 @@ returns c = record {
   nodes = node_at-keeps;
   tables = tabled-keeps;
   jobs = job_of-keeps;
+  no_jobs = job_of-none;
   ends = comes-keeps;
   chains = leads-keeps;
   shapes = node-keeps;
