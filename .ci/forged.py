@@ -51,6 +51,7 @@ KNOWN = {
 }
 # The most calls of `Memory::past_limit` in a crate.
 PAST_LIMIT = {
+    "flight_emit": 1,
     "flight_eval": 5,
     "flight_graph": 3,
     "flight_link": 1,
