@@ -19,6 +19,8 @@ use Rattle.flight_render.specs.declared.job.What.TheVariants as what
 use Rattle.flight_value.specs.declared.made.Tables.{Tables}
 use Rattle.flight_syntax.specs.declared.script.Flowing.{Flowing}
 use Rattle.flight_eval.specs.declared.body.Body.{Body}
+use Rattle.flight_value.specs.declared.graph.Atom.TheVariants as atom
+use Rattle.flight_meaning.specs.declared.place.Place.{Place}
 use Rattle.flight_emit.specs.Seen.{look, tables_by, seen_of, IsServerNode}
 use Rattle.flight_render.specs.Jobs.{is_server, Value, shown, of_job, outcome, element, target_of}
 use Rattle.flight_render.specs.Attempt.{job_for}
@@ -29,8 +31,10 @@ use Rattle.flight_state.specs.Local.{Seen, IsSeen, job_seen, shape_seen, IsAtomO
 use Rattle.flight_state.proofs.Lists.{in_behind}
 use Rattle.flight_emit.specs.Sheet.{root}
 use Rattle.flight_emit.specs.Good as good
-use Rattle.flight_emit.specs.Good.{IsNode, IsLeaf, IsPlainKind}
-use Rattle.flight_emit.specs.Log.{Taken, atom_row, task, stream_row, home_for, IsTaskFor, Stage, Took, Put}
+use Rattle.flight_emit.specs.Good.{Gives, IsNode, IsLeaf, IsPlainKind}
+use Rattle.flight_emit.specs.Whole.{IsBoundPlace, HasOneSlot}
+use Rattle.flight_render.specs.Plain.{action_name}
+use Rattle.flight_emit.specs.Log.{reference_row, Taken, atom_row, task, stream_row, home_for, IsTaskFor, Stage, Took, Put}
 use Rattle.flight_emit.specs.declared.node.Sort.{Sort}
 use Rattle.flight_emit.specs.declared.node.Sort.TheVariants as sort
 use Rattle.flight_emit.specs.Nodes.{IsReady, reference_place}
@@ -151,3 +155,35 @@ stream_taken g seen stream flows id s t u is_id is_stream took new put =
     (subst (λ z. Put (token_of (place.Value (root z)) ∷ []) t u) is_id put)
     (good.a_stream stream (root s.next) refl (home_there s t (stream_row stream flows) (key.Stream stream) took refl) (inr refl))
     (root_place s.next (low_id s t (stream_row stream flows) took))
+
+-- ---- server references
+
+pub action_found : (g : Ground) (seen : Seen) (v w : Value) (k : Key) (name : List ℕ) (r : Ref) (s u : Stage) → In (k, r) s.homes → IsPlace r → IsNode g seen v k → HasOneSlot g seen k (store.action name) w → Put (token_of (place.Action r.id) ∷ []) s u → WroteLeaf g seen v s u
+action_found g seen v w k name r s u home is_place node shape put =
+    leaf_found g seen v (place.Action r.id) s u put (good.a_reference k r (record { label = store.action name; slots = w ∷ [] }) node home shape refl) is_place.small
+
+pub reference_taken : (g : Ground) (seen : Seen) (v w : Value) (k : Key) (name : List ℕ) (bound : Place) (id : ℕ) (s t u : Stage) → id ≡ s.next → Took (reference_row k name w bound) s t → IsNew k s.homes → IsNode g seen v k → HasOneSlot g seen k (store.action name) w → IsBoundPlace bound
+    → ((z : Value) × Gives g seen w z × IsLeaf g seen t.homes [] bound z) → Put (token_of (place.Action id) ∷ []) t u → WroteLeaf g seen v s u
+reference_taken g seen v w k name bound id s t u is_id took new node shape is_bound spells put =
+    leaf_taken g seen v (reference_row k name w bound) (place.Action s.next) s t u took (new, tt) (shape, is_bound, spells)
+    (subst (λ z. Put (token_of (place.Action z) ∷ []) t u) is_id put)
+    (good.a_reference k (root s.next) (record { label = store.action name; slots = w ∷ [] }) node (home_there s t (reference_row k name w bound) k took refl) shape refl)
+    (low_id s t (reference_row k name w bound) took)
+
+action_node : (g : Ground) (seen : Seen) (action : ℕ) → IsNode g seen (shown (tree.Action action)) (key.Action action)
+action_node g seen action = record { is_seen = tt; no_job = refl; is_target = refl; lasting = tt }
+
+null_certain : atom.Null ≡ atom.Pending → ⊥
+null_certain e = cc
+
+pub plain_found : (g : Ground) (seen : Seen) (action : ℕ) (r : Ref) (s u : Stage) → IsReady s → In (key.Action action, r) s.homes → Put (token_of (place.Action r.id) ∷ []) s u → WroteLeaf g seen (shown (tree.Action action)) s u
+plain_found g seen action r s u ready home put =
+    action_found g seen (shown (tree.Action action)) (shown (tree.Atom atom.Null)) (key.Action action) (action_name g action) r s u home (ready.0 (key.Action action) r home) (action_node g seen action) refl put
+
+pub plain_taken : (g : Ground) (seen : Seen) (action id : ℕ) (name : List ℕ) (s t u : Stage) → id ≡ s.next → name ≡ action_name g action → ((v : Value) → Took (reference_row (key.Action action) name v (place.Atom atom.Null)) s t) → IsNew (key.Action action) s.homes → Put (token_of (place.Action id) ∷ []) t u
+    → WroteLeaf g seen (shown (tree.Action action)) s u
+plain_taken g seen action id name s t u is_id named took new put =
+    let null = shown (tree.Atom atom.Null) in
+    reference_taken g seen (shown (tree.Action action)) null (key.Action action) (action_name g action) (place.Atom atom.Null) id s t u is_id
+    (subst (λ z. Took (reference_row (key.Action action) z null (place.Atom atom.Null)) s t) named (took null)) new (action_node g seen action) refl (inl refl)
+    (null, good.itself, good.an_atom atom.Null refl refl null_certain) put

@@ -1,7 +1,8 @@
-ghost use Rattle.std.specs.Prelude.{◌≡◌, ◌<◌, ◌∷◌, [], OnOk, IfOk, IfSome, length};
+ghost use Rattle.std.specs.Prelude.{◌≡◌, ◌<◌, ◌∷◌, [], OnOk, IfOk, IfSome, IfNone, length};
 ghost use Rattle.flight_value.specs.declared.made.Tables.{Tables};
 ghost use Rattle.flight_render.specs.declared.job.What.TheVariants as what;
 ghost use Rattle.flight_render.specs.Plain.{action_name};
+ghost use Rattle.flight_render.specs.Valid.{IsActionAt};
 ghost use Rattle.flight_emit.specs.Seen.{look, seen_of, tables_by, IsServerNode};
 ghost use Rattle.flight_value.specs.Graph.{IsValidAtom};
 ghost use Rattle.flight_payload.specs.Written.{token_of, HasToken};
@@ -17,7 +18,7 @@ ghost use Rattle.flight_emit.specs.Wrote.{WroteLeaf};
 
 use crate::node::Sort;
 use crate::scene::{Scene, tables_by};
-use crate::take::{copy_name, copy_text, take_stream, take_symbol, take_task};
+use crate::take::{copy_name, copy_text, take_reference, take_stream, take_symbol, take_task};
 use crate::work::Work;
 use flight_home::Home;
 use flight_render::{Ground, What};
@@ -155,10 +156,29 @@ pub fn write_stream(
 
 /// What a server reference is called.
 fn action_name(ground: &Ground, action: u32) -> Option<&Text>
-    ensures { IfSome result (λ name. name.now ≡ action_name ground.now action) }
+    ensures some { IfSome result (λ name. name.now ≡ action_name ground.now action) }
+    ensures none { IfNone result (IsActionAt ground.now action → ⊥) }
 {
     match ground.program.declared.as_slice().get(action as usize) {
         Some(Declared::Action { name, .. }) => Some(name),
         _ => None,
     }
+}
+
+/// Writes a server reference with no bound arguments, by the one row that it has.
+pub fn write_action(scene: &Scene, home: &mut Home, work: &mut Work, action: u32) -> Result<(), Memory>
+    requires ready { IsReady (stage home.old work.old) }
+    requires action { IsActionAt scene.now.ground.now action }
+    ensures extends { Extends home.old home.new }
+    ensures wrote { OnOk result ((seen : Seen) → WroteLeaf scene.now.ground.now seen (shown (tree.Action action)) (stage home.old work.old) (stage home.new work.new)) }
+{
+    let key = Key::Action { action };
+    if let Some(at) = home.get(&key) {
+        return work.put_action(at.id);
+    }
+    let Some(name) = action_name(scene.ground, action) else {
+        unreachable!()
+    };
+    let id = take_reference(scene.alloc, home, work, key, name, None)?;
+    work.put_action(id)
 }
