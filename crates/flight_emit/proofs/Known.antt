@@ -21,6 +21,11 @@ use Rattle.flight_syntax.specs.declared.script.Flowing.{Flowing}
 use Rattle.flight_eval.specs.declared.body.Body.{Body}
 use Rattle.flight_value.specs.declared.graph.Atom.TheVariants as atom
 use Rattle.flight_meaning.specs.declared.place.Place.{Place}
+use Rattle.std.specs.Prelude.{Result, Ok, Err, IfOk, OnOk}
+use Rattle.flight_value.specs.declared.memory.Memory.{Memory}
+use Rattle.flight_emit.specs.Log.{value_row, take, IsMetNode}
+use Rattle.flight_emit.specs.Wrote.{HasRow}
+use Rattle.flight_emit.proofs.Growing.{grows_none, grows_took}
 use Rattle.flight_emit.specs.Seen.{look, tables_by, seen_of, IsServerNode}
 use Rattle.flight_render.specs.Jobs.{is_server, Value, shown, of_job, outcome, element, target_of}
 use Rattle.flight_render.specs.Attempt.{job_for}
@@ -187,3 +192,37 @@ plain_taken g seen action id name s t u is_id named took new put =
     reference_taken g seen (shown (tree.Action action)) null (key.Action action) (action_name g action) (place.Atom atom.Null) id s t u is_id
     (subst (λ z. Took (reference_row (key.Action action) z null (place.Atom atom.Null)) s t) named (took null)) new (action_node g seen action) refl (inl refl)
     (null, good.itself, good.an_atom atom.Null refl refl null_certain) put
+
+-- ---- rows of promises
+
+pub row_found : (g : Ground) (seen : Seen) (v : Value) (k l : Key) (id : ℕ) (r : Ref) (s : Stage) → l ≡ k → id ≡ r.id → IsReady s → In (l, r) s.homes → HasRow g seen v k id s s
+row_found g seen v k l id r s e is_id ready home =
+    record {
+      acts = [];
+      grows = grows_none g seen v s s refl refl refl refl refl;
+      no_places = refl;
+      same = refl;
+      home = r;
+      is_home = subst (λ z. In (z, r) s.homes) e home;
+      is_id = is_id;
+      below = subst (λ z. z < 2 ^ 31) (sym is_id) (let p = ready.0 l r home in p.small);
+    }
+
+pub row_taken : (g : Ground) (seen : Seen) (v : Value) (k l : Key) (id : ℕ) (s t : Stage) → l ≡ k → id ≡ s.next → id < 2 ^ 31 → Took (value_row l) s t → IsNew l s.homes → IsMetNode g seen v k → HasRow g seen v k id s t
+row_taken g seen v k l id s t e is_id low took new met =
+    let taken : Took (value_row k) s t = subst (λ z. Took (value_row z) s t) e took in
+    record {
+      acts = take (value_row k) ∷ [];
+      grows = grows_took g seen v (value_row k) s t taken (subst (λ z. IsNew z s.homes) e new, tt) met;
+      no_places = refl;
+      same = taken.out;
+      home = root s.next;
+      is_home = home_there s t (value_row k) k taken refl;
+      is_id = is_id;
+      below = low;
+    }
+
+pub rows_taken : (seen : Seen) (k l : Key) (r : Result ℕ Memory) (s t : Stage) → l ≡ k → IfOk r (λ id. (id ≡ s.next) × (id < 2 ^ 31)) → OnOk r (Took (value_row l) s t) → IsNew l s.homes
+    → IfOk r (λ id. (g : Ground) (v : Value) → IsMetNode g seen v k → HasRow g seen v k id s t)
+rows_taken seen k l (Ok id) s t e is_id took new = λ g v met. row_taken g seen v k l id s t e is_id.0 is_id.1 took new met
+rows_taken seen k l (Err refused) s t e is_id took new = tt

@@ -1,5 +1,5 @@
 -- What writing one value comes to.
-use Rattle.std.specs.Prelude.{ℕ, ◌≡◌, ◌≤◌, List, [], ◌∷◌, ◌++◌, map, codes, Option, Some, None}
+use Rattle.std.specs.Prelude.{ℕ, ◌≡◌, ◌<◌, ◌≤◌, ◌^◌, List, [], ◌∷◌, ◌++◌, map, codes, Option, Some, None}
 use Rattle.json.specs.Token.{Token}
 use Rattle.json.specs.Token as token
 use Rattle.flight_value.specs.Graph.{Ascend}
@@ -44,6 +44,17 @@ pub record Wrote (g : Ground) (seen : Seen) (r : Ref) (v : Value) (levels : ℕ)
   pub placed : (k : Key) (a : Ref) → In (k, a) (places_by acts) → In (k, a) (homes_in r drawn)
   pub writable : IsWritable (tree_of drawn)
   pub shallow : depth (tree_of drawn) ≤ levels
+
+-- a node has the row of an id, which may still be to be written; nothing is written yet that refers to it
+pub record HasRow (g : Ground) (seen : Seen) (v : Value) (k : Key) (id : ℕ) (old new : Stage) : Type 0 where
+  pub acts : List Act
+  pub grows : Grows g seen v acts old new
+  pub no_places : places_by acts ≡ []
+  pub same : new.out ≡ old.out
+  pub home : Ref
+  pub is_home : In (k, home) new.homes
+  pub is_id : id ≡ home.id
+  pub below : id < 2 ^ 31
 
 -- ---- the parts of a composite
 

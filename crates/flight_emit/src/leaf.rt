@@ -8,17 +8,20 @@ ghost use Rattle.flight_value.specs.Graph.{IsValidAtom};
 ghost use Rattle.flight_payload.specs.Written.{token_of, HasToken};
 ghost use Rattle.flight_emit.specs.Nodes.{IsReady, reference_place};
 ghost use Rattle.flight_value.specs.declared.graph.Atom.TheVariants as atom;
+ghost use Rattle.flight_value.specs.declared.key.Key.TheVariants as key;
 ghost use Rattle.flight_value.specs.declared.made.Tree.TheVariants as tree;
 ghost use Rattle.flight_home.specs.Homes.{Homes};
 ghost use Rattle.flight_render.specs.declared.root.Ground.{Ground};
-ghost use Rattle.flight_render.specs.Jobs.{shown, failed};
+ghost use Rattle.flight_render.specs.Jobs.{Value, shown, failed};
 ghost use Rattle.flight_state.specs.Local.{Seen};
-ghost use Rattle.flight_emit.specs.Log.{stage, Extends, Put};
-ghost use Rattle.flight_emit.specs.Wrote.{WroteLeaf};
+ghost use Rattle.flight_emit.specs.Log.{stage, IsMetNode, Extends, Put};
+ghost use Rattle.flight_emit.specs.Wrote.{WroteLeaf, HasRow};
 
 use crate::node::Sort;
 use crate::scene::{Scene, tables_by};
-use crate::take::{copy_name, copy_text, take_reference, take_stream, take_symbol, take_task};
+use crate::take::{
+    copy_name, copy_text, take_reference, take_row, take_stream, take_symbol, take_task,
+};
 use crate::work::Work;
 use flight_home::Home;
 use flight_render::{Ground, What};
@@ -166,7 +169,12 @@ fn action_name(ground: &Ground, action: u32) -> Option<&Text>
 }
 
 /// Writes a server reference with no bound arguments, by the one row that it has.
-pub fn write_action(scene: &Scene, home: &mut Home, work: &mut Work, action: u32) -> Result<(), Memory>
+pub fn write_action(
+    scene: &Scene,
+    home: &mut Home,
+    work: &mut Work,
+    action: u32,
+) -> Result<(), Memory>
     requires ready { IsReady (stage home.old work.old) }
     requires action { IsActionAt scene.now.ground.now action }
     ensures extends { Extends home.old home.new }
@@ -181,4 +189,22 @@ pub fn write_action(scene: &Scene, home: &mut Home, work: &mut Work, action: u32
     };
     let id = take_reference(scene.alloc, home, work, key, name, None)?;
     work.put_action(id)
+}
+
+/// The row of the promise of bound arguments, which is still to be written where the promise is met first.
+pub fn promise_row(
+    scene: &Scene,
+    home: &mut Home,
+    work: &mut Work,
+    promise: &Name,
+) -> Result<u32, Memory>
+    requires ready { IsReady (stage home.old work.old) }
+    ensures extends { Extends home.old home.new }
+    ensures row { IfOk result (λ id. (g : Ground) (v : Value) → IsMetNode g (seen_of scene.now.bodies.now) v (key.Made promise.now) → HasRow g (seen_of scene.now.bodies.now) v (key.Made promise.now) id (stage home.old work.old) (stage home.new work.new)) }
+{
+    let key = Key::Made(copy_name(promise)?);
+    if let Some(at) = home.get(&key) {
+        return Ok(at.id);
+    }
+    take_row(scene.alloc, home, work, key)
 }
