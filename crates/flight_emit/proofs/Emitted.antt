@@ -315,6 +315,10 @@ adds_here p =
       for_stream = p.on.for_stream;
     }
 
+pub adds_more : (p : Paper) → (adds_here p).more ≡ p.more
+unfolding adds_here
+adds_more p = refl
+
 pub alone_emits : (g : Ground) (seen : Seen) (first : Value) (id start : ℕ) (before more : Homes) (sheets : List Sheet) (births : Births) (uses : List Use) → OnPaper g seen first (Some id) start before more sheets births uses
     → EmitsHere g seen first id start (start + length uses) before (before ++ more) (rows_on sheets) births (meant_of sheets)
 alone_emits g seen first id start before more sheets births uses on =

@@ -12,3 +12,4 @@ pub mod Known
 pub mod Slots
 pub mod Finishing
 pub mod Whole
+pub mod Streamed

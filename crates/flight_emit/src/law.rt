@@ -1,4 +1,4 @@
-ghost use Rattle.std.specs.Prelude.{ℕ, suc, ◌+◌, ◌≡◌, ◌++◌, ◌∷◌, [], List, Option, length, map, slice_get, option_and_then, Some};
+ghost use Rattle.std.specs.Prelude.{ℕ, suc, ◌+◌, ◌≡◌, ◌++◌, ◌∷◌, [], List, Option, length, map, slice_get, option_and_then, Some, None};
 ghost use Rattle.flight_value.specs.Listed.{In};
 ghost use Rattle.flight_value.specs.Store as store;
 ghost use Rattle.flight_value.specs.Store.{Label, Shape};
@@ -17,18 +17,24 @@ ghost use Rattle.flight_render.specs.Plain.{label_of_kind};
 ghost use Rattle.flight_meaning.specs.Meaning.{Token, token_label};
 ghost use Rattle.flight_payload.specs.Tree.{single};
 ghost use Rattle.flight_payload.specs.Written.{token_of, IsWritable};
-ghost use Rattle.flight_state.specs.Local.{Seen, Met, shape_seen, Births, EmitsHere};
+ghost use Rattle.flight_row.specs.declared.row.RowKind.{RowKind};
+ghost use Rattle.flight_render.specs.declared.job.What.{What};
+ghost use Rattle.flight_render.specs.Run.{End};
+ghost use Rattle.flight_meaning.specs.declared.place.Place.{Place};
+ghost use Rattle.flight_state.specs.Local.{Seen, Met, shape_seen, Births, RowHere, EmitsHere, StreamsHere};
 ghost use Rattle.flight_emit.specs.Sheet.{Form, Sheet, rows_on, meant_of, label_of, below, token_place};
-ghost use Rattle.flight_emit.specs.Good.{Gives, IsNode, HasNames};
+ghost use Rattle.flight_emit.specs.Good.{Gives, IsNode, IsLeaf, HasNames};
 ghost use Rattle.flight_emit.specs.Whole.{Use, OnPaper};
 ghost use Rattle.flight_emit.specs.Log.{Act, Stage, homes_by, births_by, value_of_key, entries_row, IsMetNode, Took};
 ghost use Rattle.flight_emit.specs.Wrote.{WroteLeaf, Wrote, WroteParts, WroteNode, IsReadableForm, name_tokens, opens, closes};
 ghost use Rattle.flight_emit.specs.Finished.{uses_of, Finished};
 ghost use Rattle.flight_emit.specs.Nodes.{IsPlainNode, slots_of_source};
 
-/// A fact alone: sheets that are good, with homes and births, are what a writer owes.
+/// A fact alone: sheets that are good, with homes and births, are what a writer owes: that of a task with a row of its
+/// own, and that of a stream's row, which is an atom or a reference.
 pub fn sheets_emit()
     ensures alone { (g : Ground) (seen : Seen) (first : Value) (id start : ℕ) (before more : Homes) (sheets : List Sheet) (births : Births) (uses : List Use) → OnPaper g seen first (Some id) start before more sheets births uses → EmitsHere g seen first id start (start + length uses) before (before ++ more) (rows_on sheets) births (meant_of sheets) }
+    ensures stream { (g : Ground) (seen : Seen) (first w : Value) (end : End) (task : What) (kind : RowKind) (at : Place) (follower : Option What) (start : ℕ) (before more : Homes) (sheets : List Sheet) (births : Births) (uses : List Use) → OnPaper g seen first None start before more sheets births uses → Gives g seen first w → IsLeaf g seen (before ++ more) sheets at w → RowHere g end task (record { kind = kind; places = at ∷ [] }) ((0, first) ∷ []) births follower → StreamsHere g seen first end task start (start + length uses) before (before ++ more) (record { kind = kind; places = at ∷ [] }) (rows_on sheets) follower births ((0, first) ∷ []) (meant_of sheets) }
 {}
 
 /// A fact alone: acts whose rows are all written are on paper.
