@@ -4,7 +4,7 @@ use Rattle.std.specs.Prelude.{option_and_then, option_map, is_some}
 use Rattle.std.specs.List.{AllByRecursion}
 use Rattle.std.proofs.lemmas.Option.{none-some}
 use Rattle.std.proofs.lemmas.Bool.{false≢true}
-use Rattle.flight_value.specs.Graph.{IsValidSlot, slots_of}
+use Rattle.flight_value.specs.Graph.{slots_of}
 use Rattle.flight_value.specs.Store as target
 use Rattle.flight_value.specs.Store.{Target, Shape, Label}
 use Rattle.flight_value.specs.declared.graph.Atom.TheVariants as atom
@@ -38,7 +38,7 @@ use Rattle.flight_render.specs.Laws.{Grows, IsThere}
 use Rattle.flight_render.proofs.Names.{some-injective}
 use Rattle.flight_render.proofs.Larger.{job_of-none, leads-keeps}
 use Rattle.flight_render.proofs.Falling.{bodied}
-use Rattle.flight_render.proofs.Sourced.{each_of, each_at, mapped_each, OnGave, slot_named, node_valid, outcome_valid, source_is-named}
+use Rattle.flight_render.proofs.Sourced.{each_of, each_at, mapped_each, OnGave, IsHeldSlot, slot_named, node_held, source_is-named}
 use Rattle.flight_render.proofs.There.{known_alone, node_known, gives_known}
 
 -- ---- a source's slots
@@ -93,7 +93,7 @@ held_known g v s i n o e held is = go (script_or-arguments g.script.sources (arg
         subst (IsKnown g s) (sym (a.1 (length g.script.sources) held))
         (known_alone g s (tree_of o (length g.script.sources) held)
         (slot_named g (made_in []) (length g.script.sources) o (subst (λ z. slice_get (outcomes g) z ≡ Some o) first e) held
-        (node_valid o n (node.Promise held) (outcome_valid g v i o e) is).0))
+        (node_held g v i o e n (node.Promise held) is).0))
 
 -- ---- slots of nodes
 
@@ -106,12 +106,12 @@ known_in g s (x ∷ vs) w h (inl e) = subst (ShowsKnown g s) (sym e) h.0
 known_in g s (x ∷ vs) w h (inr i) = known_in g s vs w h.1 i
 
 source_known : (g : Ground) → IsValidGround g → (s : List Bool) (i n : ℕ) (o : Outcome) → slice_get (outcomes g) i ≡ Some o → (x : Node) → node_in o n ≡ Some x → AllKnown g s (source_slots o i x)
-source_known g v s i n o e x is = go x is (node_valid o n x (outcome_valid g v i o e) is)
+source_known g v s i n o e x is = go x is (node_held g v i o e n x is)
   where
-    all : (xs : List Slot) → AllByRecursion (IsValidSlot (length (outcome_nodes o))) xs → AllKnown g s (map (λ y. shown (tree_of o i y)) xs)
-    all xs h = mapped_each (IsValidSlot (length (outcome_nodes o))) (ShowsKnown g s) (λ y. shown (tree_of o i y)) (λ y w. known_alone g s (tree_of o i y) (slot_named g (made_in []) i o e y w)) xs h
+    all : (xs : List Slot) → AllByRecursion (IsHeldSlot (length (outcome_nodes o))) xs → AllKnown g s (map (λ y. shown (tree_of o i y)) xs)
+    all xs h = mapped_each (IsHeldSlot (length (outcome_nodes o))) (ShowsKnown g s) (λ y. shown (tree_of o i y)) (λ y w. known_alone g s (tree_of o i y) (slot_named g (made_in []) i o e y w)) xs h
 
-    go : (x : Node) → node_in o n ≡ Some x → AllByRecursion (IsValidSlot (length (outcome_nodes o))) (slots_of x) → AllKnown g s (source_slots o i x)
+    go : (x : Node) → node_in o n ≡ Some x → AllByRecursion (IsHeldSlot (length (outcome_nodes o))) (slots_of x) → AllKnown g s (source_slots o i x)
     go (node.Promise held) q h = (held_known g v s i n o e held q, tt)
     go (node.Array items) q h = all (slots_of (node.Array items)) h
     go (node.Object props) q h = all (slots_of (node.Object props)) h

@@ -23,14 +23,14 @@ use Rattle.flight_syntax.specs.declared.expr.Op.TheVariants as op
 use Rattle.flight_syntax.specs.declared.script.Outcome.{Outcome}
 use Rattle.flight_syntax.specs.declared.script.Outcome.TheVariants as outcome
 use Rattle.flight_syntax.specs.declared.script.Data.{Data}
-use Rattle.flight_syntax.specs.Script.{IsData, IsOutcome}
+use Rattle.flight_syntax.specs.Script.{IsSourceSlot, IsSourceNode, IsData, IsOutcome}
 use Rattle.flight_render.specs.declared.root.Ground.{Ground}
 use Rattle.flight_render.specs.declared.root.Root.{Root}
 use Rattle.flight_render.specs.declared.root.Root.TheVariants as root
 use Rattle.flight_render.specs.Run.{Step, gave, threw, waits}
 use Rattle.flight_render.specs.Values.{arguments, outcomes, tree_of, outcome_nodes, node_in, node_items, node_property, named_slot, end_if}
 use Rattle.flight_render.specs.Operators.{range_digest, type_digest, is_safe, is_big, is_plain, whole, big, counted, same_plain, added, equal, less, operate, operated, key_of}
-use Rattle.flight_render.specs.Valid.{IsValidGround, IsRoot, IsNamed, IsLiteral, IsKey}
+use Rattle.flight_render.specs.Valid.{IsArgumentSlot, IsArgumentKind, IsValidGround, IsRoot, IsValueAtom, IsNamed, IsLiteral, IsKey}
 use Rattle.flight_render.proofs.Names.{some-injective}
 
 -- ---- lists
@@ -55,6 +55,10 @@ each_map P Q f (x ∷ xs) h = (f x h.0, each_map P Q f xs h.1)
 pub mapped_each : {A B : Type 0} (P : A → Type 0) (Q : B → Type 0) (f : A → B) → ((x : A) → P x → Q (f x)) → (xs : List A) → AllByRecursion P xs → AllByRecursion Q (map f xs)
 mapped_each P Q f h [] w = tt
 mapped_each P Q f h (x ∷ xs) w = (h x w.0, mapped_each P Q f h xs w.1)
+
+each_both : {A : Type 0} (P Q : A → Type 0) (xs : List A) → AllByRecursion P xs → AllByRecursion Q xs → AllByRecursion (λ x. P x × Q x) xs
+each_both P Q [] h w = tt
+each_both P Q (x ∷ xs) h w = ((h.0, w.0), each_both P Q xs h.1 w.1)
 
 -- a position is within the list
 pub position_within : {A : Type 0} (p : A → Bool) (xs : List A) (i : ℕ) → position p xs ≡ Some i → i < length xs
@@ -88,14 +92,77 @@ outcome_valid g v s o e =
     (mapped_each IsData IsValidOutcome (λ d. d.outcome) data_valid g.script.sources (each_of IsData g.script.sources v.script.each_source))
     (arguments_valid g g.root v.first)) e
 
--- a slot of a source is a value of it
-pub slot_named : (g : Ground) (find : Name → Option Made) (s : ℕ) (o : Outcome) → slice_get (outcomes g) s ≡ Some o → (x : Slot) → IsValidSlot (length (outcome_nodes o)) x → IsNamed g find (tree_of o s x)
-slot_named g find s o e (slot.Atom a) h = h
-slot_named g find s o e (slot.Node n) h = (o, e, h)
+-- no slot holds an import, a failure or what is pending
+abbrev IsCleanOutcome : Outcome → Type 0
+IsCleanOutcome (outcome.Value g) = IsSourceSlot g.root × AllByRecursion (λ n. AllByRecursion IsSourceSlot (slots_of n)) g.nodes
+IsCleanOutcome (outcome.Reject digest) = Unit {0}
 
-pub node_valid : (o : Outcome) (n : ℕ) (x : Node) → IsValidOutcome o → node_in o n ≡ Some x → AllByRecursion (IsValidSlot (length (outcome_nodes o))) (slots_of x)
+data_clean : (d : Data) → IsData d → IsCleanOutcome d.outcome
+data_clean d h = go d.outcome h.1
+  where
+    go : (o : Outcome) → IsOutcome o → IsCleanOutcome o
+    go (outcome.Value g) w = (w.root, each_map IsSourceNode (λ n. AllByRecursion IsSourceSlot (slots_of n)) (λ n q. each_of IsSourceSlot (slots_of n) q.1) g.nodes (each_of IsSourceNode g.nodes w.nodes))
+    go (outcome.Reject digest) w = tt
+
+argument_clean : (x : Slot) → IsArgumentSlot x → IsSourceSlot x
+argument_clean (slot.Atom (atom.Symbol text)) h = tt
+argument_clean (slot.Atom (atom.Import text)) h = h
+argument_clean (slot.Atom (atom.Failed digest)) h = h
+argument_clean (slot.Atom atom.Pending) h = h
+argument_clean _ h = tt
+
+arguments_clean : (g : Ground) (r : Root) → IsRoot g r → AllByRecursion IsCleanOutcome (arguments r)
+arguments_clean g root.App h = tt
+arguments_clean g (root.Call number args) h =
+    let w = h.2 in (
+      (
+        subst IsSourceSlot (sym w.is_root) tt,
+        each_map (λ n. IsArgumentKind n × All IsArgumentSlot (slots_of n)) (λ n. AllByRecursion IsSourceSlot (slots_of n))
+            (λ n q. each_map IsArgumentSlot IsSourceSlot argument_clean (slots_of n) (each_of IsArgumentSlot (slots_of n) q.1)) args.nodes
+            (each_of (λ n. IsArgumentKind n × All IsArgumentSlot (slots_of n)) args.nodes w.nodes),
+      ),
+      tt,
+    )
+
+pub outcome_clean : (g : Ground) → IsValidGround g → (s : ℕ) (o : Outcome) → slice_get (outcomes g) s ≡ Some o → IsCleanOutcome o
+outcome_clean g v s o e =
+    each_at IsCleanOutcome (outcomes g) s o
+    (each_append IsCleanOutcome (map (λ d. d.outcome) g.script.sources) (arguments g.root)
+    (mapped_each IsData IsCleanOutcome (λ d. d.outcome) data_clean g.script.sources (each_of IsData g.script.sources v.script.each_source))
+    (arguments_clean g g.root v.first)) e
+
+-- a slot that a source's value may hold, among so many nodes
+abbrev pub IsHeldSlot : ℕ → Slot → Type 0
+IsHeldSlot count x = IsValidSlot count x × IsSourceSlot x
+
+held_atom : (g : Ground) (a : Atom) → IsValidAtom a → IsSourceSlot (slot.Atom a) → IsValueAtom g a
+held_atom g (atom.Import text) v h = elim h [ ]
+held_atom g (atom.Failed digest) v h = elim h [ ]
+held_atom g atom.Pending v h = elim h [ ]
+held_atom g _ v h = v
+
+pub value_valid : (g : Ground) (a : Atom) → IsValueAtom g a → IsValidAtom a
+value_valid g (atom.Import text) h = tt
+value_valid g (atom.Failed digest) h = tt
+value_valid g atom.Pending h = tt
+value_valid g _ h = h
+
+-- a slot of a source is a value of it
+pub slot_named : (g : Ground) (find : Name → Option Made) (s : ℕ) (o : Outcome) → slice_get (outcomes g) s ≡ Some o → (x : Slot) → IsHeldSlot (length (outcome_nodes o)) x → IsNamed g find (tree_of o s x)
+slot_named g find s o e (slot.Atom a) h = held_atom g a h.0 h.1
+slot_named g find s o e (slot.Node n) h = (o, e, h.0)
+
+node_valid : (o : Outcome) (n : ℕ) (x : Node) → IsValidOutcome o → node_in o n ≡ Some x → AllByRecursion (IsValidSlot (length (outcome_nodes o))) (slots_of x)
 node_valid (outcome.Value g) n x v e = each_of (IsValidSlot (length g.nodes)) (slots_of x) ((each_at (IsValidNode g.nodes) g.nodes n x (each_of (IsValidNode g.nodes) g.nodes v.each) e).slots)
 node_valid (outcome.Reject d) n x v e = absurd (none-some x e)
+
+node_clean : (o : Outcome) (n : ℕ) (x : Node) → IsCleanOutcome o → node_in o n ≡ Some x → AllByRecursion IsSourceSlot (slots_of x)
+node_clean (outcome.Value g) n x v e = each_at (λ y. AllByRecursion IsSourceSlot (slots_of y)) g.nodes n x v.1 e
+node_clean (outcome.Reject d) n x v e = absurd (none-some x e)
+
+-- the slots of a source's node
+pub node_held : (g : Ground) → IsValidGround g → (s : ℕ) (o : Outcome) → slice_get (outcomes g) s ≡ Some o → (n : ℕ) (x : Node) → node_in o n ≡ Some x → AllByRecursion (IsHeldSlot (length (outcome_nodes o))) (slots_of x)
+node_held g v s o e n x is = each_both (IsValidSlot (length (outcome_nodes o))) IsSourceSlot (slots_of x) (node_valid o n x (outcome_valid g v s o e) is) (node_clean o n x (outcome_clean g v s o e) is)
 
 -- of what a step gave
 abbrev pub OnGave : {A : Type 0} → (A → Type 0) → Step A → Type 0
@@ -104,7 +171,7 @@ OnGave P (threw d) = Unit {0}
 OnGave P (waits s) = Unit {0}
 
 pub source_is-named : (g : Ground) → IsValidGround g → (find : Name → Option Made) (b : Bool) (s : ℕ) (o : Option Outcome) → slice_get (outcomes g) s ≡ o → OnGave (IsNamed g find) (end_if b s o)
-source_is-named g v find true s (Some (outcome.Value gr)) e = slot_named g find s (outcome.Value gr) e gr.root (outcome_valid g v s (outcome.Value gr) e).valid_root
+source_is-named g v find true s (Some (outcome.Value gr)) e = slot_named g find s (outcome.Value gr) e gr.root ((outcome_valid g v s (outcome.Value gr) e).valid_root, (outcome_clean g v s (outcome.Value gr) e).0)
 source_is-named g v find true s (Some (outcome.Reject d)) e = tt
 source_is-named g v find true s None e = tt
 source_is-named g v find false s (Some o) e = tt
@@ -112,10 +179,10 @@ source_is-named g v find false s None e = tt
 
 -- ---- what stands in a source's array or object
 
-slots_named : (g : Ground) (find : Name → Option Made) (s : ℕ) (o : Outcome) → slice_get (outcomes g) s ≡ Some o → (xs : List Slot) → AllByRecursion (IsValidSlot (length (outcome_nodes o))) xs → AllByRecursion (IsNamed g find) (map (tree_of o s) xs)
-slots_named g find s o e xs h = mapped_each (IsValidSlot (length (outcome_nodes o))) (IsNamed g find) (tree_of o s) (slot_named g find s o e) xs h
+slots_named : (g : Ground) (find : Name → Option Made) (s : ℕ) (o : Outcome) → slice_get (outcomes g) s ≡ Some o → (xs : List Slot) → AllByRecursion (IsHeldSlot (length (outcome_nodes o))) xs → AllByRecursion (IsNamed g find) (map (tree_of o s) xs)
+slots_named g find s o e xs h = mapped_each (IsHeldSlot (length (outcome_nodes o))) (IsNamed g find) (tree_of o s) (slot_named g find s o e) xs h
 
-prop_slots : (g : Ground) (find : Name → Option Made) (s : ℕ) (o : Outcome) → slice_get (outcomes g) s ≡ Some o → (ps : List Prop) → AllByRecursion (IsValidSlot (length (outcome_nodes o))) (map (λ p. p.slot) ps) → AllByRecursion (IsNamed g find) (map (λ p. tree_of o s p.slot) ps)
+prop_slots : (g : Ground) (find : Name → Option Made) (s : ℕ) (o : Outcome) → slice_get (outcomes g) s ≡ Some o → (ps : List Prop) → AllByRecursion (IsHeldSlot (length (outcome_nodes o))) (map (λ p. p.slot) ps) → AllByRecursion (IsNamed g find) (map (λ p. tree_of o s p.slot) ps)
 prop_slots g find s o e [] h = tt
 prop_slots g find s o e (p ∷ ps) h = (slot_named g find s o e p.slot h.0, prop_slots g find s o e ps h.1)
 
@@ -128,7 +195,7 @@ slot_of_name g find name (n ∷ ns) (t ∷ ts) h = go (bytes_eq name n) (slot_of
     go true rest = h.0
     go false rest = rest
 
-pub source_items : (g : Ground) (find : Name → Option Made) (s : ℕ) (o : Outcome) → slice_get (outcomes g) s ≡ Some o → (x : Node) → AllByRecursion (IsValidSlot (length (outcome_nodes o))) (slots_of x) → (ts : List Tree) → node_items o s x ≡ Some ts → AllByRecursion (IsNamed g find) ts
+pub source_items : (g : Ground) (find : Name → Option Made) (s : ℕ) (o : Outcome) → slice_get (outcomes g) s ≡ Some o → (x : Node) → AllByRecursion (IsHeldSlot (length (outcome_nodes o))) (slots_of x) → (ts : List Tree) → node_items o s x ≡ Some ts → AllByRecursion (IsNamed g find) ts
 source_items g find s o e (node.Array items) h ts is = subst (AllByRecursion (IsNamed g find)) (some-injective _ ts is) (slots_named g find s o e items h)
 source_items g find s o e (node.Object props) h ts is = absurd (none-some ts is)
 source_items g find s o e (node.Map pairs) h ts is = absurd (none-some ts is)
@@ -138,7 +205,7 @@ source_items g find s o e (node.Promise x) h ts is = absurd (none-some ts is)
 source_items g find s o e (node.Stream f items end) h ts is = absurd (none-some ts is)
 source_items g find s o e (node.Action id bound) h ts is = absurd (none-some ts is)
 
-pub source_property : (g : Ground) (find : Name → Option Made) (s : ℕ) (o : Outcome) → slice_get (outcomes g) s ≡ Some o → (name : List ℕ) (x : Node) → AllByRecursion (IsValidSlot (length (outcome_nodes o))) (slots_of x) → (t : Tree) → node_property o s name x ≡ Some t → IsNamed g find t
+pub source_property : (g : Ground) (find : Name → Option Made) (s : ℕ) (o : Outcome) → slice_get (outcomes g) s ≡ Some o → (name : List ℕ) (x : Node) → AllByRecursion (IsHeldSlot (length (outcome_nodes o))) (slots_of x) → (t : Tree) → node_property o s name x ≡ Some t → IsNamed g find t
 source_property g find s o e name (node.Object props) h t is = subst (IsNamed g find) (some-injective _ t is) (slot_of_name g find name (map (λ p. p.name) props) _ (prop_slots g find s o e props h))
 source_property g find s o e name (node.Array items) h t is = absurd (none-some t is)
 source_property g find s o e name (node.Map pairs) h t is = absurd (none-some t is)
@@ -150,66 +217,69 @@ source_property g find s o e name (node.Action id bound) h t is = absurd (none-s
 
 -- ---- atoms
 
-pub literal_valid : (a : Atom) → IsLiteral a → IsValidAtom a
-literal_valid (atom.Whole z) h = h
-literal_valid (atom.Date text) h = h
-literal_valid _ h = tt
+pub literal_valid : (g : Ground) (a : Atom) → IsLiteral a → IsValueAtom g a
+literal_valid g (atom.Whole z) h = h
+literal_valid g (atom.Date text) h = h
+literal_valid g (atom.Import text) h = elim h [ ]
+literal_valid g (atom.Failed digest) h = elim h [ ]
+literal_valid g atom.Pending h = elim h [ ]
+literal_valid g _ h = tt
 
 both_true : (b c : Bool) → (b && c) ≡ true → (b ≡ true) × (c ≡ true)
 both_true true c h = (refl, h)
 both_true false c h = absurd (false≢true h)
 
-valid_whole : (z : ℤ) → OnGave IsValidAtom (whole z)
-valid_whole z = go (is_safe z) refl
+valid_whole : (g : Ground) (z : ℤ) → OnGave (IsValueAtom g) (whole z)
+valid_whole g z = go (is_safe z) refl
   where
-    go : (b : Bool) → is_safe z ≡ b → OnGave IsValidAtom (cond b (gave (atom.Whole z)) (threw range_digest))
+    go : (b : Bool) → is_safe z ≡ b → OnGave (IsValueAtom g) (cond b (gave (atom.Whole z)) (threw range_digest))
     go true e = let h = both_true (int_le (negsuc (2 ^ 53 - 2)) z) (int_le z (pos (2 ^ 53 - 1))) e in (record { le = subst T (sym h.0) tt }, record { le = subst T (sym h.1) tt })
     go false e = tt
 
-valid_big : (z : ℤ) → OnGave IsValidAtom (big z)
-valid_big z = go (is_big z)
+valid_big : (g : Ground) (z : ℤ) → OnGave (IsValueAtom g) (big z)
+valid_big g z = go (is_big z)
   where
-    go : (b : Bool) → OnGave IsValidAtom (cond b (gave (atom.Big z)) (threw range_digest))
+    go : (b : Bool) → OnGave (IsValueAtom g) (cond b (gave (atom.Big z)) (threw range_digest))
     go true = tt
     go false = tt
 
-valid_counted : (by : ℤ → ℤ → ℤ) (x y : Atom) → OnGave IsValidAtom (counted by x y)
-valid_counted by (atom.Whole x) (atom.Whole y) = valid_whole (by x y)
-valid_counted by (atom.Big x) (atom.Big y) = valid_big (by x y)
-valid_counted by _ _ = tt
+valid_counted : (g : Ground) (by : ℤ → ℤ → ℤ) (x y : Atom) → OnGave (IsValueAtom g) (counted by x y)
+valid_counted g by (atom.Whole x) (atom.Whole y) = valid_whole g (by x y)
+valid_counted g by (atom.Big x) (atom.Big y) = valid_big g (by x y)
+valid_counted g by _ _ = tt
 
-valid_added : (x y : Atom) → OnGave IsValidAtom (added x y)
-valid_added (atom.Text x) (atom.Text y) = tt
-valid_added (atom.Text x) (atom.Whole y) = tt
-valid_added x y = valid_counted ◌+ℤ◌ x y
+valid_added : (g : Ground) (x y : Atom) → OnGave (IsValueAtom g) (added x y)
+valid_added g (atom.Text x) (atom.Text y) = tt
+valid_added g (atom.Text x) (atom.Whole y) = tt
+valid_added g x y = valid_counted g ◌+ℤ◌ x y
 
-valid_equal : (x y : Atom) → OnGave IsValidAtom (equal x y)
-valid_equal x y = go (is_plain x && is_plain y)
+valid_equal : (g : Ground) (x y : Atom) → OnGave (IsValueAtom g) (equal x y)
+valid_equal g x y = go (is_plain x && is_plain y)
   where
-    go : (b : Bool) → OnGave IsValidAtom (cond b (gave (atom.Bool (same_plain x y))) (threw type_digest))
+    go : (b : Bool) → OnGave (IsValueAtom g) (cond b (gave (atom.Bool (same_plain x y))) (threw type_digest))
     go true = tt
     go false = tt
 
-valid_less : (x y : Atom) → OnGave IsValidAtom (less x y)
-valid_less (atom.Whole x) (atom.Whole y) = tt
-valid_less (atom.Big x) (atom.Big y) = tt
-valid_less (atom.Text x) (atom.Text y) = tt
-valid_less _ _ = tt
+valid_less : (g : Ground) (x y : Atom) → OnGave (IsValueAtom g) (less x y)
+valid_less g (atom.Whole x) (atom.Whole y) = tt
+valid_less g (atom.Big x) (atom.Big y) = tt
+valid_less g (atom.Text x) (atom.Text y) = tt
+valid_less g _ _ = tt
 
-valid_operate : (o : Op) (x y : Atom) → OnGave IsValidAtom (operate o x y)
-valid_operate op.Plus x y = valid_added x y
-valid_operate op.Minus x y = valid_counted ◌-ℤ◌ x y
-valid_operate op.Times x y = valid_counted ◌*ℤ◌ x y
-valid_operate op.Equal x y = valid_equal x y
-valid_operate op.Less x y = valid_less x y
-valid_operate op.And x y = tt
-valid_operate op.Or x y = tt
+valid_operate : (g : Ground) (o : Op) (x y : Atom) → OnGave (IsValueAtom g) (operate o x y)
+valid_operate g op.Plus x y = valid_added g x y
+valid_operate g op.Minus x y = valid_counted g ◌-ℤ◌ x y
+valid_operate g op.Times x y = valid_counted g ◌*ℤ◌ x y
+valid_operate g op.Equal x y = valid_equal g x y
+valid_operate g op.Less x y = valid_less g x y
+valid_operate g op.And x y = tt
+valid_operate g op.Or x y = tt
 
-pub valid_operated : (o : Op) (x y : Tree) → OnGave IsValidAtom (operated o x y)
-valid_operated o (tree.Atom x) (tree.Atom y) = valid_operate o x y
-valid_operated o _ _ = tt
+pub valid_operated : (g : Ground) (o : Op) (x y : Tree) → OnGave (IsValueAtom g) (operated o x y)
+valid_operated g o (tree.Atom x) (tree.Atom y) = valid_operate g o x y
+valid_operated g o _ _ = tt
 
-pub key_is-key : (t : Tree) → OnGave (λ a. IsKey (tree.Atom a) × IsValidAtom a) (key_of t)
-key_is-key (tree.Atom (atom.Text text)) = (tt, tt)
-key_is-key (tree.Atom (atom.Whole z)) = (tt, tt)
-key_is-key _ = tt
+pub key_is-key : (g : Ground) (t : Tree) → OnGave (λ a. IsKey (tree.Atom a) × IsValueAtom g a) (key_of t)
+key_is-key g (tree.Atom (atom.Text text)) = (tt, tt)
+key_is-key g (tree.Atom (atom.Whole z)) = (tt, tt)
+key_is-key g _ = tt

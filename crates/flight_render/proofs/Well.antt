@@ -3,7 +3,6 @@ use Rattle.std.proofs.Common.{◌≡◌, ℕ, zero, suc, ◌+◌, ◌<◌, Bool,
 use Rattle.std.specs.Prelude.{bytes_eq, codes, option_and_then}
 use Rattle.std.specs.List.{AllByRecursion}
 use Rattle.std.proofs.lemmas.Option.{none-some}
-use Rattle.flight_value.specs.Graph.{IsValidAtom}
 use Rattle.flight_value.specs.declared.graph.Atom.{Atom}
 use Rattle.flight_value.specs.declared.graph.Atom.TheVariants as atom
 use Rattle.flight_value.specs.declared.made.Made.{Made}
@@ -23,10 +22,10 @@ use Rattle.flight_render.specs.Values.{is_settled, source_named, stream_named, s
 use Rattle.flight_render.specs.Operators.{type_digest, missing_digest, operated, key_of, thrown}
 use Rattle.flight_render.specs.Eval.{Context, Attributes, known, make_here, give_or_fail, give_atom, item_at, branch, each, make_bound, by_name, make_object, with_attribute, with_children, tag_tree, make_tagged, make_element, eval, eval_all, eval_props, eval_pairs, eval_attrs}
 use Rattle.flight_render.specs.Laws.{TablesLeadBack}
-use Rattle.flight_render.specs.Valid.{IsActionAt, NoneTwice, names_of, IsTagOf, IsLawful, AreLawful, PropsLawful, PairsLawful, IsValidGround, IsNamed, MadeAs, IsArrayKind, IsObjectKind, IsPromiseKind, IsKey, MadeWell, IsMade, TablesMade}
+use Rattle.flight_render.specs.Valid.{IsActionAt, NoneTwice, names_of, IsTagOf, IsLawful, AreLawful, PropsLawful, PairsLawful, IsValidGround, IsValueAtom, IsNamed, MadeAs, IsArrayKind, IsObjectKind, IsPromiseKind, IsKey, MadeWell, IsMade, TablesMade}
 use Rattle.flight_render.proofs.Names.{some-injective, own_table}
 use Rattle.flight_render.proofs.Ordered.{names_in, sorted_ascends, each_sorted, twice_drop, twice_last}
-use Rattle.flight_render.proofs.Sourced.{each_at, each_append, each_map, mapped_each, position_within, outcome_valid, node_valid, OnGave, source_is-named, slot_of_name, source_items, source_property, literal_valid, valid_operated, key_is-key}
+use Rattle.flight_render.proofs.Sourced.{each_at, each_append, each_map, mapped_each, position_within, node_held, OnGave, source_is-named, slot_of_name, source_items, source_property, literal_valid, valid_operated, key_is-key}
 
 -- ---- tables that gain
 
@@ -160,7 +159,7 @@ module _ (cx : Context) (valid : IsValidGround cx.over) (back : TablesLeadBack [
   well_option P d None m n h = record { grows = same_nodes m.made; nodes = n; value = tt }
   well_option P d (Some x) m n h = record { grows = same_nodes m.made; nodes = n; value = h x refl }
 
-  well_atom : (s : Step Atom) (m : Machine) → Nodes m.made → OnGave IsValidAtom s → Well Fine m.made (give_atom s m)
+  well_atom : (s : Step Atom) (m : Machine) → Nodes m.made → OnGave (IsValueAtom cx.over) s → Well Fine m.made (give_atom s m)
   well_atom (gave a) m n h = record { grows = same_nodes m.made; nodes = n; value = h }
   well_atom (threw d) m n h = record { grows = same_nodes m.made; nodes = n; value = tt }
   well_atom (waits s) m n h = record { grows = same_nodes m.made; nodes = n; value = tt }
@@ -244,7 +243,7 @@ module _ (cx : Context) (valid : IsValidGround cx.over) (back : TablesLeadBack [
   items_fine made n (tree.Made name) items is = read_fine (AllFine made) made_items (made_in (with_made made) name) (λ x e ys f. made_items-fine made x (node_made made n name x e).0 ys f) items is
   items_fine made n (tree.FromSource s i) items is =
       read_fine (AllFine made) (λ o. option_and_then (node_items o s) (node_in o i)) (slice_get (outcomes cx.over) s)
-      (λ o e ys f. read_fine (AllFine made) (node_items o s) (node_in o i) (λ x q zs r. source_items cx.over (made_in (with_made made)) s o e x (node_valid o i x (outcome_valid cx.over valid s o e) q) zs r) ys f) items is
+      (λ o e ys f. read_fine (AllFine made) (node_items o s) (node_in o i) (λ x q zs r. source_items cx.over (made_in (with_made made)) s o e x (node_held cx.over valid s o e i x q) zs r) ys f) items is
   items_fine made n (tree.Atom a) items is = absurd (none-some items is)
   items_fine made n (tree.Promise s) items is = absurd (none-some items is)
   items_fine made n (tree.Stream s) items is = absurd (none-some items is)
@@ -254,7 +253,7 @@ module _ (cx : Context) (valid : IsValidGround cx.over) (back : TablesLeadBack [
   property_fine made n name (tree.Made q) u is = read_fine (Fine made) (made_property name) (made_in (with_made made) q) (λ x e y f. made_property-fine made name x (node_made made n q x e).0 y f) u is
   property_fine made n name (tree.FromSource s i) u is =
       read_fine (Fine made) (λ o. option_and_then (node_property o s name) (node_in o i)) (slice_get (outcomes cx.over) s)
-      (λ o e y f. read_fine (Fine made) (node_property o s name) (node_in o i) (λ x q z r. source_property cx.over (made_in (with_made made)) s o e name x (node_valid o i x (outcome_valid cx.over valid s o e) q) z r) y f) u is
+      (λ o e y f. read_fine (Fine made) (node_property o s name) (node_in o i) (λ x q z r. source_property cx.over (made_in (with_made made)) s o e name x (node_held cx.over valid s o e i x q) z r) y f) u is
   property_fine made n name (tree.Atom a) u is = absurd (none-some u is)
   property_fine made n name (tree.Promise s) u is = absurd (none-some u is)
   property_fine made n name (tree.Stream s) u is = absurd (none-some u is)
@@ -336,13 +335,13 @@ module _ (cx : Context) (valid : IsValidGround cx.over) (back : TablesLeadBack [
   unfolding AttrsDistinct PropsFine
   well_attribute tail x name t m n h w = go (bytes_eq name (codes "key"))
     where
-      keyed : (s : Step Atom) → OnGave (λ a. IsKey (tree.Atom a) × IsValidAtom a) s → Well (AttrsDistinct tail) m.made (on_step s (λ key k. give (record { key = tree.Atom key; props = x.props }) k) m)
+      keyed : (s : Step Atom) → OnGave (λ a. IsKey (tree.Atom a) × IsValueAtom cx.over a) s → Well (AttrsDistinct tail) m.made (on_step s (λ key k. give (record { key = tree.Atom key; props = x.props }) k) m)
       keyed (gave k) q = record { grows = same_nodes m.made; nodes = n; value = (q.0, q.1, h.2, twice_drop (names_in x.props) tail name h.3) }
       keyed (threw d) q = record { grows = same_nodes m.made; nodes = n; value = tt }
       keyed (waits s) q = record { grows = same_nodes m.made; nodes = n; value = tt }
 
       go : (b : Bool) → Well (AttrsDistinct tail) m.made (cond b (on_step (key_of t) (λ key k. give (record { key = tree.Atom key; props = x.props }) k) m) (give (record { key = x.key; props = x.props ++ (name, t) ∷ [] }) m))
-      go true = keyed (key_of t) (key_is-key t)
+      go true = keyed (key_of t) (key_is-key cx.over t)
       go false = record { grows = same_nodes m.made; nodes = n; value = (h.0, h.1, each_append (λ p. Fine m.made p.1) x.props ((name, t) ∷ []) h.2 (w, tt), names_next x.props (name, t) tail h.3) }
 
   attrs_more : (tail : List (List ℕ)) (before after : List Made) → Extends before after → (x : Attributes) → AttrsDistinct tail before x → AttrsDistinct tail after x
@@ -367,7 +366,7 @@ module _ (cx : Context) (valid : IsValidGround cx.over) (back : TablesLeadBack [
   unfolding FineAs
   well_tagged (tag.Server c) key props m is n k h w = well_node (kind.Server c) (key ∷ props ∷ []) m n (h, (w.0, tt)) (is, (key, (props, refl, k, w.1)))
   well_tagged (tag.Host name) key props m is n k h w = well_node kind.Element (tag_tree cx (tag.Host name) ∷ key ∷ props ∷ []) m n (tt, (h, (w.0, tt))) (tag_tree cx (tag.Host name), (key, (props, refl, k)))
-  well_tagged (tag.Client c) key props m is n k h w = well_node kind.Element (tag_tree cx (tag.Client c) ∷ key ∷ props ∷ []) m n (tt, (h, (w.0, tt))) (tag_tree cx (tag.Client c), (key, (props, refl, k)))
+  well_tagged (tag.Client c) key props m is n k h w = well_node kind.Element (tag_tree cx (tag.Client c) ∷ key ∷ props ∷ []) m n ((c, is, refl), (h, (w.0, tt))) (tag_tree cx (tag.Client c), (key, (props, refl, k)))
   well_tagged tag.Suspense key props m is n k h w = well_node kind.Element (tag_tree cx tag.Suspense ∷ key ∷ props ∷ []) m n (tt, (h, (w.0, tt))) (tag_tree cx tag.Suspense, (key, (props, refl, k)))
 
   well_element : (t : Tag) (x : Attributes) (m : Machine) → IsTagOf cx.over t → Nodes m.made → AttrsDistinct [] m.made x → Well Fine m.made (make_element cx t x m)
@@ -422,9 +421,9 @@ module _ (cx : Context) (valid : IsValidGround cx.over) (back : TablesLeadBack [
     eval-well scope (term.index of at_one) env m l n h =
         well_then _ _ _ _ _ (eval-well scope of env (pay 1 m) l.0 n h)
         (λ t k e nk own. well_then _ _ _ _ _ (eval-well scope at_one env k l.1 nk (all_fine_more m.made k.made e env h)) (λ i j f nj oj. well_index t i j nj))
-    eval-well scope (term.atom a) env m l n h = well_end Fine (gave (tree.Atom a)) (pay 1 m) n (literal_valid a l)
+    eval-well scope (term.atom a) env m l n h = well_end Fine (gave (tree.Atom a)) (pay 1 m) n (literal_valid cx.over a l)
     eval-well scope (term.variable number) env m l n h = well_end Fine (gave (unwrap_or (slice_get env number) undefined)) (pay 1 m) n (variable_fine m.made env number h)
-    eval-well scope (term.client number) env m l n h = well_end Fine (gave (tree.Atom (atom.Import (import_at cx.over number)))) (pay 1 m) n tt
+    eval-well scope (term.client number) env m l n h = well_end Fine (gave (tree.Atom (atom.Import (import_at cx.over number)))) (pay 1 m) n (number, l, refl)
     eval-well scope (term.array items) env m l n h = well_then _ _ _ _ _ (all-well scope items env [] (pay 1 m) l n h tt) (λ ts k e nk own. well_node kind.Array ts k nk own tt)
     eval-well scope (term.object props) env m l n h = well_then PropsDistinct Fine m.made (eval_props cx props env [] (pay 1 m)) (make_object cx) (props-well scope props env [] (pay 1 m) l.1 n h tt l.0) (λ ps k e nk own. well_plain_object ps k nk own)
     eval-well scope (term.map pairs) env m l n h = well_then PairsFine Fine m.made (eval_pairs cx pairs env [] (pay 1 m)) (make_here cx kind.Map) (pairs-well scope pairs env [] (pay 1 m) l n h (tt, (0, refl))) (λ ts k e nk own. well_node kind.Map ts k nk own.0 own.1)
@@ -452,19 +451,19 @@ module _ (cx : Context) (valid : IsValidGround cx.over) (back : TablesLeadBack [
         (λ t k e nk own. well_branch t (give t) (eval cx right env) k nk (well_end Fine (gave t) k nk own) (eval-well scope right env k l.1 nk (all_fine_more m.made k.made e env h)))
     eval-well scope (term.binary op.Plus left right) env m l n h =
         well_then _ _ _ _ _ (eval-well scope left env (pay 1 m) l.0 n h)
-        (λ x k e nk own. well_then _ _ _ _ _ (eval-well scope right env k l.1 nk (all_fine_more m.made k.made e env h)) (λ y i f ni oi. well_atom (operated op.Plus x y) i ni (valid_operated op.Plus x y)))
+        (λ x k e nk own. well_then _ _ _ _ _ (eval-well scope right env k l.1 nk (all_fine_more m.made k.made e env h)) (λ y i f ni oi. well_atom (operated op.Plus x y) i ni (valid_operated cx.over op.Plus x y)))
     eval-well scope (term.binary op.Minus left right) env m l n h =
         well_then _ _ _ _ _ (eval-well scope left env (pay 1 m) l.0 n h)
-        (λ x k e nk own. well_then _ _ _ _ _ (eval-well scope right env k l.1 nk (all_fine_more m.made k.made e env h)) (λ y i f ni oi. well_atom (operated op.Minus x y) i ni (valid_operated op.Minus x y)))
+        (λ x k e nk own. well_then _ _ _ _ _ (eval-well scope right env k l.1 nk (all_fine_more m.made k.made e env h)) (λ y i f ni oi. well_atom (operated op.Minus x y) i ni (valid_operated cx.over op.Minus x y)))
     eval-well scope (term.binary op.Times left right) env m l n h =
         well_then _ _ _ _ _ (eval-well scope left env (pay 1 m) l.0 n h)
-        (λ x k e nk own. well_then _ _ _ _ _ (eval-well scope right env k l.1 nk (all_fine_more m.made k.made e env h)) (λ y i f ni oi. well_atom (operated op.Times x y) i ni (valid_operated op.Times x y)))
+        (λ x k e nk own. well_then _ _ _ _ _ (eval-well scope right env k l.1 nk (all_fine_more m.made k.made e env h)) (λ y i f ni oi. well_atom (operated op.Times x y) i ni (valid_operated cx.over op.Times x y)))
     eval-well scope (term.binary op.Equal left right) env m l n h =
         well_then _ _ _ _ _ (eval-well scope left env (pay 1 m) l.0 n h)
-        (λ x k e nk own. well_then _ _ _ _ _ (eval-well scope right env k l.1 nk (all_fine_more m.made k.made e env h)) (λ y i f ni oi. well_atom (operated op.Equal x y) i ni (valid_operated op.Equal x y)))
+        (λ x k e nk own. well_then _ _ _ _ _ (eval-well scope right env k l.1 nk (all_fine_more m.made k.made e env h)) (λ y i f ni oi. well_atom (operated op.Equal x y) i ni (valid_operated cx.over op.Equal x y)))
     eval-well scope (term.binary op.Less left right) env m l n h =
         well_then _ _ _ _ _ (eval-well scope left env (pay 1 m) l.0 n h)
-        (λ x k e nk own. well_then _ _ _ _ _ (eval-well scope right env k l.1 nk (all_fine_more m.made k.made e env h)) (λ y i f ni oi. well_atom (operated op.Less x y) i ni (valid_operated op.Less x y)))
+        (λ x k e nk own. well_then _ _ _ _ _ (eval-well scope right env k l.1 nk (all_fine_more m.made k.made e env h)) (λ y i f ni oi. well_atom (operated op.Less x y) i ni (valid_operated cx.over op.Less x y)))
     eval-well scope (term.element t attrs term.no_terms) env m l n h =
         well_then (AttrsDistinct []) Fine m.made (eval_attrs cx attrs env (record { key = tree.Atom atom.Null; props = [] }) (pay 1 m)) (λ more k. make_element cx t more k)
         (attrs-well scope attrs env [] (record { key = tree.Atom atom.Null; props = [] }) (pay 1 m) l.3 n h (tt, tt, tt, subst NoneTwice (sym (append-nil (names_of attrs))) l.1))

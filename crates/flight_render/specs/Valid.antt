@@ -34,7 +34,7 @@ use Rattle.flight_render.specs.declared.job.What.{What}
 use Rattle.flight_render.specs.declared.job.What.TheVariants as what
 use Rattle.flight_render.specs.declared.job.Job.{Job}
 use Rattle.flight_render.specs.Run.{gave, Run}
-use Rattle.flight_render.specs.Values.{outcomes, outcome_nodes, source_named, stream_named, made_in}
+use Rattle.flight_render.specs.Values.{outcomes, outcome_nodes, source_named, stream_named, import_at, made_in}
 use Rattle.flight_render.specs.Bodies.{inner, element_of, node_at}
 use Rattle.flight_render.specs.Jobs.{Value, shown, of_job, known, argument_in}
 use Rattle.flight_render.specs.Laws.{TablesLeadBack}
@@ -178,9 +178,16 @@ pub record IsValidGround (g : Ground) : Type 0 where
 
 -- ---- the nodes that a body makes
 
+-- an atom that a value may hold: no failure, nothing that is pending, and no import but that of a declared client component
+abbrev pub IsValueAtom : Ground → Atom → Type 0
+IsValueAtom g (atom.Import text) = (client : ℕ) × IsClientAt g client × (import_at g client ≡ text)
+IsValueAtom g (atom.Failed digest) = ⊥
+IsValueAtom g atom.Pending = ⊥
+IsValueAtom g a = IsValidAtom a
+
 -- a value whose numbers are in range, and whose node made is found
 abbrev pub IsNamed : Ground → (Name → Option Made) → Tree → Type 0
-IsNamed g find (tree.Atom a) = IsValidAtom a
+IsNamed g find (tree.Atom a) = IsValueAtom g a
 IsNamed g find (tree.Made n) = (m : Made) × (find n ≡ Some m)
 IsNamed g find (tree.FromSource source n) = (o : Outcome) × (slice_get (outcomes g) source ≡ Some o) × (n < length (outcome_nodes o))
 IsNamed g find (tree.Promise source) = source < length g.script.sources

@@ -23,7 +23,7 @@ use Rattle.flight_value.specs.Listed.{In, Distinct}
 use Rattle.flight_render.specs.Costs.{Reached, at_root, in_slot}
 use Rattle.flight_render.specs.Valid.{IsValidGround, ShowsKnown}
 use Rattle.flight_render.proofs.Closed.{reached_known}
-use Rattle.flight_render.proofs.Sourced.{each_at}
+use Rattle.flight_render.proofs.Sourced.{each_at, value_valid}
 use Rattle.flight_seq.specs.declared.walk.Walk.{Walk}
 use Rattle.flight_seq.specs.Walk.{Entry, IsMet}
 use Rattle.flight_seq.specs.Chain.{Fits, Draws}
@@ -149,7 +149,7 @@ module _ (g : Ground) (s : List Bool) (fuel : ℕ) (root : Slot) (nodes : List N
   -- ---- a valid graph
 
   atom_valid : (a : Atom) (v : Value) → ShowsKnown g s v → Fits ks (slot.Atom a) (target_of v) → IsValidAtom a
-  atom_valid a (shown (tree.Atom b)) h e = subst IsValidAtom (sym e) h
+  atom_valid a (shown (tree.Atom b)) h e = subst IsValidAtom (sym e) (value_valid g b h)
   atom_valid a (shown (tree.Made n)) h e = absurd e
   atom_valid a (shown (tree.FromSource i n)) h e = absurd e
   atom_valid a (shown (tree.Promise i)) h e = absurd e
